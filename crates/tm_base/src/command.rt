@@ -1,7 +1,7 @@
 //! What a session asks of its master.
 ghost use Rattle.std.specs.Prelude.{◌≡◌};
 
-use crate::{ByteList, Mem, TryCopy, Writer};
+use tm_data::{ByteList, Mem, TryCopy, Writer};
 
 /// A command of a session. A key or value is any list of bytes here: the master refuses by name what
 /// it does not take.

@@ -1,28 +1,25 @@
 //! The plain data that every part of the system speaks of.
 //!
 //! Nothing here acts: the types say what is stored, logged, sent, asked and answered, and the crates
-//! above say what is done with it. Each type that owns memory has a `copy` by the trait [`TryCopy`],
-//! and each list is an [`ItemList`], which contracts see as the list of its items.
+//! above say what is done with it. What is stored and logged stands in `tm_data` and is passed on from
+//! here, so that a crate above names `tm_base` alone. Each type that owns memory has a `copy` by the
+//! trait [`TryCopy`], and each list is an [`ItemList`], which contracts see as the list of its items.
 #![tactic(auto)]
 
-mod bytes;
 mod command;
-mod image;
-mod list;
-mod log;
-mod memory;
+mod message;
 mod reply;
-mod row;
-mod transaction;
-mod vector;
+mod step;
 
-pub use bytes::ByteList;
 pub use command::Command;
-pub use image::{Body, Child, ChildList, Image};
-pub use list::{ItemList, TryCopy};
-pub use log::{Group, GroupList, Record, RecordList};
-pub use memory::{Mem, NoMemory};
+pub use message::{
+    Message, MessageList, Node, Note, PageStamp, PageStampList, RosterEntry, RosterEntryList, Tag,
+    TagList, WriterState,
+};
 pub use reply::{RecoveryWait, Reply};
-pub use row::{Before, Key, LengthError, MAX_KEY, MAX_VALUE, Row, RowList, Value};
-pub use transaction::{MAX_STAMP, Page, Stamp, Txn, Writer};
-pub use vector::{Vector, VectorEntry, VectorEntryList};
+pub use step::{Line, Outcome, Pair, PairList, Step};
+pub use tm_data::{
+    Before, Body, ByteList, Child, ChildList, Group, GroupList, Image, ItemList, Key, LengthError,
+    MAX_KEY, MAX_STAMP, MAX_VALUE, Mem, NoMemory, Page, Record, RecordList, Row, RowList, Stamp,
+    TryCopy, Txn, Value, Vector, VectorEntry, VectorEntryList, Writer,
+};

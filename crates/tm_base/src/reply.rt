@@ -1,7 +1,7 @@
 //! What a master replies to a command.
 ghost use Rattle.std.specs.Prelude.{◌≡◌};
 
-use crate::{Key, Mem, Page, TryCopy, Txn, Value, Writer};
+use tm_data::{Key, Mem, Page, TryCopy, Txn, Value, Writer};
 
 /// What a recovery that is under way waits for.
 #[derive(Clone, Copy, Debug, PartialEq, Eq)]

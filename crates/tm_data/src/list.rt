@@ -13,6 +13,15 @@ pub trait TryCopy {
         ensures { IfOk result (λ copy. copy ≡ self.now) };
 }
 
+impl<T: TryCopy> TryCopy for Option<T> {
+    fn copy(&self) -> Mem<Option<T>> {
+        match self {
+            Some(value) => Ok(Some(value.copy()?)),
+            None => Ok(None),
+        }
+    }
+}
+
 /// A list, which contracts see as the list of its items.
 #[derive(Debug, Drop)]
 pub struct ItemList<T> {

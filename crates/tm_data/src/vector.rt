@@ -30,8 +30,8 @@ pub struct Vector {
 
 impl Model for Vector {
     ghost use Rattle.std.specs.Prelude.{List};
-    ghost use Rattle.tm_base.specs.declared.vector.VectorEntry.{VectorEntry};
-    ghost use Rattle.tm_base.specs.Vectors.{IsVector};
+    ghost use Rattle.tm_data.specs.declared.vector.VectorEntry.{VectorEntry};
+    ghost use Rattle.tm_data.specs.Vectors.{IsVector};
 
     ghost Value = { List VectorEntry };
 
@@ -44,7 +44,7 @@ impl Model for Vector {
 
 impl Vector {
     ghost use Rattle.std.specs.Prelude.{◌≡◌, []};
-    ghost use Rattle.tm_base.specs.Vectors.{IsVector};
+    ghost use Rattle.tm_data.specs.Vectors.{IsVector};
 
     /// Every writer at 0.
     pub fn new(alloc: Global) -> Vector

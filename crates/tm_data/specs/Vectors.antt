@@ -1,6 +1,6 @@
 -- Vectors of what is known of each writer (Fidge 1988, Mattern 1989).
 use Rattle.std.specs.Prelude.{◌<◌, ◌≤◌, List, [], ◌∷◌, ℕ}
-use Rattle.tm_base.specs.declared.vector.VectorEntry.{VectorEntry}
+use Rattle.tm_data.specs.declared.vector.VectorEntry.{VectorEntry}
 
 -- The writers rise strictly, each above `after`, and no stamp is 0.
 abbrev pub AscendsAbove : ℕ → List VectorEntry → Type 0

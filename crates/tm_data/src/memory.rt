@@ -1,6 +1,6 @@
 //! Want of memory.
 ghost use Rattle.std.specs.Prelude.{◌≡◌};
-ghost use Rattle.tm_base.specs.declared.memory.NoMemory.{NoMemory};
+ghost use Rattle.tm_data.specs.declared.memory.NoMemory.{NoMemory};
 
 use std::alloc::{AllocError, AllocFailed};
 

@@ -22,15 +22,6 @@ impl TryCopy for Child {
 /// Children in order.
 pub type ChildList = ItemList<Child>;
 
-impl TryCopy for Option<Key> {
-    fn copy(&self) -> Mem<Option<Key>> {
-        match self {
-            Some(key) => Ok(Some(key.copy()?)),
-            None => Ok(None),
-        }
-    }
-}
-
 /// What a page holds. The fences `low` and `high` say which keys may be there: those from `low` on
 /// and below `high`; none is the open end.
 #[derive(Debug, Drop, PartialEq, Eq)]

@@ -21,7 +21,7 @@ pub enum LengthError {
 }
 
 impl From<NoMemory> for LengthError {
-    ghost use Rattle.tm_base.specs.declared.row.LengthError.TheVariants.{NoMemory};
+    ghost use Rattle.tm_data.specs.declared.row.LengthError.TheVariants.{NoMemory};
 
     ghost from_gives = { λ _ e. e ≡ NoMemory };
 
@@ -129,15 +129,6 @@ impl TryCopy for Value {
         Ok(Value {
             bytes: self.bytes.copy()?,
         })
-    }
-}
-
-impl TryCopy for Option<Value> {
-    fn copy(&self) -> Mem<Option<Value>> {
-        match self {
-            Some(value) => Ok(Some(value.copy()?)),
-            None => Ok(None),
-        }
     }
 }
 

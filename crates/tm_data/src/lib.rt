@@ -1,0 +1,23 @@
+//! The plain data that is stored and logged: bytes and lists, keys and values, rows, images of pages,
+//! records and groups of a writer's log, and vectors of stamps.
+//!
+//! `tm_base` passes all of it on, beside the data that is sent, asked and answered.
+#![tactic(auto)]
+
+mod bytes;
+mod image;
+mod list;
+mod log;
+mod memory;
+mod row;
+mod transaction;
+mod vector;
+
+pub use bytes::ByteList;
+pub use image::{Body, Child, ChildList, Image};
+pub use list::{ItemList, TryCopy};
+pub use log::{Group, GroupList, Record, RecordList};
+pub use memory::{Mem, NoMemory};
+pub use row::{Before, Key, LengthError, MAX_KEY, MAX_VALUE, Row, RowList, Value};
+pub use transaction::{MAX_STAMP, Page, Stamp, Txn, Writer};
+pub use vector::{Vector, VectorEntry, VectorEntryList};
