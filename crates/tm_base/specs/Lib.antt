@@ -1,0 +1,2 @@
+pub mod GroupSizes
+pub mod Sizes

@@ -7,19 +7,26 @@
 #![tactic(auto)]
 
 mod command;
+mod log_size;
 mod message;
+mod page_size;
 mod reply;
 mod step;
+#[cfg(test)]
+mod tests;
 
 pub use command::Command;
+pub use log_size::group_size;
 pub use message::{
     Message, MessageList, Node, Note, PageStamp, PageStampList, RosterEntry, RosterEntryList, Tag,
     TagList, WriterState,
 };
+pub use page_size::{room, row_size, size};
 pub use reply::{RecoveryWait, Reply};
 pub use step::{Line, Outcome, Pair, PairList, Step};
 pub use tm_data::{
     Before, Body, ByteList, Child, ChildList, Group, GroupList, Image, ItemList, Key, LengthError,
-    MAX_KEY, MAX_STAMP, MAX_VALUE, Mem, NoMemory, Page, Record, RecordList, Row, RowList, Stamp,
-    TryCopy, Txn, Value, Vector, VectorEntry, VectorEntryList, Writer,
+    MAX_KEY, MAX_STAMP, MAX_VALUE, Mem, NoMemory, Page, Record, RecordList, Row, RowKey, RowList,
+    RowMap, RowSet, Stamp, TryCopy, Txn, TxnMap, Value, Vector, VectorEntry, VectorEntryList,
+    Writer,
 };

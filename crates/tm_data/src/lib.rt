@@ -10,7 +10,12 @@ mod list;
 mod log;
 mod memory;
 mod row;
+mod row_map;
+mod row_set;
+#[cfg(test)]
+mod tests;
 mod transaction;
+mod txn_map;
 mod vector;
 
 pub use bytes::ByteList;
@@ -19,5 +24,8 @@ pub use list::{ItemList, TryCopy};
 pub use log::{Group, GroupList, Record, RecordList};
 pub use memory::{Mem, NoMemory};
 pub use row::{Before, Key, LengthError, MAX_KEY, MAX_VALUE, Row, RowList, Value};
+pub use row_map::{RowKey, RowMap};
+pub use row_set::RowSet;
 pub use transaction::{MAX_STAMP, Page, Stamp, Txn, Writer};
+pub use txn_map::TxnMap;
 pub use vector::{Vector, VectorEntry, VectorEntryList};

@@ -71,6 +71,11 @@ impl<T> ItemList<T> {
         self.items.as_slice()
     }
 
+    /// The allocator that the list was made with.
+    pub(crate) fn allocator(&self) -> Global {
+        *self.items.allocator()
+    }
+
     /// How many items there are.
     pub fn len(&self) -> usize
         ensures { result ≡ length self.now }
@@ -102,6 +107,13 @@ impl<T: Drop> ItemList<T> {
     {
         self.items.push(item)?;
         Ok(())
+    }
+
+    /// Drops all items and keeps the room. It takes no memory.
+    pub fn clear(&mut self)
+        ensures { self.new ≡ [] }
+    {
+        self.items.clear();
     }
 
     /// Moves the items of `more` to the end.

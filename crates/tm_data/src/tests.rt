@@ -1,0 +1,166 @@
+//! What no clause says: that the calls answer with ample memory, and the edges by example.
+use crate::{
+    Before, Body, ByteList, Child, Group, Image, ItemList, Key, LengthError, Page, Record, Row,
+    Stamp, TryCopy, Txn, Value, Vector, VectorEntry, Writer,
+};
+use std::alloc::Global;
+use std::process::Abort;
+use std::test::Fail;
+
+#[test]
+fn keys_by_their_length(rt: HostRuntime) -> Result<(), Fail> {
+    let bytes = [97; 65];
+    let key = Key::new(rt.alloc(), &bytes[..64])?;
+    assert_eq!(rt; key.as_slice(), &bytes[..64]);
+    assert_eq!(rt;
+        Key::new(rt.alloc(), &[]),
+        Err(LengthError::Length { length: 0 })
+    );
+    assert_eq!(rt;
+        Key::new(rt.alloc(), &bytes),
+        Err(LengthError::Length { length: 65 })
+    );
+    Ok(())
+}
+
+#[test]
+fn values_by_their_length(rt: HostRuntime) -> Result<(), Fail> {
+    let bytes = [97; 513];
+    let value = Value::new(rt.alloc(), &bytes[..512])?;
+    assert_eq!(rt; value.as_slice(), &bytes[..512]);
+    assert!(rt; Value::new(rt.alloc(), &[]).is_ok());
+    assert_eq!(rt;
+        Value::new(rt.alloc(), &bytes),
+        Err(LengthError::Length { length: 513 })
+    );
+    Ok(())
+}
+
+fn row(alloc: Global) -> Result<Row, Fail> {
+    let txn = Txn {
+        writer: Writer(1),
+        number: 2,
+    };
+    let key = Key::new(alloc, b"k")?;
+    let value = Value::new(alloc, b"v")?;
+    Ok(Row {
+        key,
+        txn,
+        now: Some(value),
+        before: Before::Was(None),
+    })
+}
+
+fn leaf(alloc: Global) -> Result<Body, Fail> {
+    let mut rows = ItemList::new(alloc);
+    rows.push(row(alloc)?)?;
+    let high = Key::new(alloc, b"z")?;
+    Ok(Body::Leaf {
+        table: 1,
+        low: None,
+        high: Some(high),
+        rows,
+    })
+}
+
+fn inner(alloc: Global) -> Result<Body, Fail> {
+    let key = Key::new(alloc, b"m")?;
+    let mut entries = ItemList::new(alloc);
+    entries.push(Child { key, page: Page(9) })?;
+    Ok(Body::Inner {
+        table: 1,
+        level: 1,
+        low: None,
+        high: None,
+        first: Page(8),
+        entries,
+    })
+}
+
+fn is_copied(rt: &impl Abort, change: &Record) -> Result<(), Fail> {
+    let copy = change.copy()?;
+    assert!(rt; copy == *change);
+    Ok(())
+}
+
+#[test]
+fn copied_changes_are_the_same(rt: HostRuntime) -> Result<(), Fail> {
+    let (page, prev) = (Page(7), Stamp(3));
+    let row = row(rt.alloc())?;
+    is_copied(
+        &rt,
+        &Record::RowSet {
+            page,
+            prev,
+            table: 1,
+            row,
+        },
+    )?;
+    let body = leaf(rt.alloc())?;
+    is_copied(&rt, &Record::Format { page, prev, body })?;
+    let body = inner(rt.alloc())?;
+    is_copied(&rt, &Record::Format { page, prev, body })?;
+    let at = Key::new(rt.alloc(), b"c")?;
+    is_copied(&rt, &Record::Cut { page, prev, at })?;
+    Ok(())
+}
+
+#[test]
+fn a_copied_group_is_the_same(rt: HostRuntime) -> Result<(), Fail> {
+    let mut records = ItemList::new(rt.alloc());
+    records.push(Record::Beat)?;
+    let group = Group {
+        writer: Writer(1),
+        seq: 5,
+        stamp: Stamp(9),
+        learnt: Vector::new(rt.alloc()),
+        records,
+    };
+    let copy = group.copy()?;
+    assert!(rt; copy == group);
+    let image = Image {
+        page: Page(7),
+        stamp: Stamp(9),
+        body: Body::Blank,
+    };
+    let copy = image.copy()?;
+    assert!(rt; copy == image);
+    Ok(())
+}
+
+#[test]
+fn lists_of_bytes_and_of_items(rt: HostRuntime) -> Result<(), Fail> {
+    let mut bytes = ByteList::from_slice(rt.alloc(), b"ab")?;
+    bytes.push(99)?;
+    bytes.extend(b"de")?;
+    assert_eq!(rt; bytes.as_slice(), b"abcde".as_slice());
+    let mut pages = ItemList::new(rt.alloc());
+    pages.push(Page(1))?;
+    let more = pages.copy()?;
+    pages.append(more)?;
+    assert_eq!(rt; pages.as_slice(), [Page(1), Page(1)].as_slice());
+    Ok(())
+}
+
+#[test]
+fn vectors_are_read_covered_and_joined(rt: HostRuntime) -> Result<(), Fail> {
+    let mut a = Vector::single(rt.alloc(), Writer(2), Stamp(12))?;
+    let b = Vector::single(rt.alloc(), Writer(1), Stamp(10))?;
+    assert!(rt; !a.covers(&b));
+    a.join(&b)?;
+    assert!(rt; a.covers(&b));
+    let entries = [
+        VectorEntry {
+            writer: Writer(1),
+            stamp: Stamp(10),
+        },
+        VectorEntry {
+            writer: Writer(2),
+            stamp: Stamp(12),
+        },
+    ];
+    assert_eq!(rt; a.as_slice(), entries.as_slice());
+    assert_eq!(rt; a.get(Writer(2)), Stamp(12));
+    assert_eq!(rt; a.get(Writer(3)), Stamp(0));
+    Ok(())
+}
