@@ -1,0 +1,4 @@
+mod BytesLemmas
+mod CallLemmas
+mod LineLemmas
+mod WrittenLemmas

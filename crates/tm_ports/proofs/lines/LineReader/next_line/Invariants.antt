@@ -1,0 +1,14 @@
+use Rattle.std.proofs.Common.{◌≤◌, ◌-◌, length}
+use Rattle.tm_ports.specs.Lines.{Holds}
+use Rattle.tm_ports.proofs.lines.LineReader.next_line.Given as goal
+
+abbrev pub invariant-loop-end : goal.invariant-loop-end
+invariant-loop-end g l =
+    let R = g.R.Source in
+    record {
+      held : Holds (R.left l.fn.source) (R.left l.source) l.fn.self l.self;
+      later : R.count l.fn.source ≤ R.count l.source;
+    }
+
+abbrev pub decreases-loop-end : goal.decreases-loop-end
+decreases-loop-end g l = 8193 - length l.self
