@@ -1,0 +1,2 @@
+mod HexFieldLemmas
+pub mod FieldLemmas
