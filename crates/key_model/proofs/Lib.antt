@@ -1,0 +1,5 @@
+mod AnyLemmas
+mod BeginLemmas
+mod LawLemmas
+mod OpenLemmas
+mod ValuedLemmas

@@ -1,0 +1,36 @@
+use Rattle.std.proofs.Common.{◌∙◌, Some, None, sym, ap, rules}
+use Rattle.std.proofs.lemmas.Result.{on_ok_weaker, on_err_weaker}
+use Rattle.std.specs.FinMap.{get, insert}
+use Rattle.tm_data.specs.Orders.{txn_cmp}
+use Rattle.tm_data.specs.Maps.{as_map}
+use Rattle.key_model.specs.State.{Open}
+use Rattle.key_model.specs.Inside.{writes_in}
+use Rattle.key_model.proofs.OpenLemmas.{changed, was, unchanged}
+use Rattle.key_model.proofs.opened.OpenMap.write.Goals as goal
+
+pub returns-clause-ok : goal.returns-clause-ok
+returns-clause-ok c =
+    let m = c.self.inside.opened in
+    let t = c.args.txn.now in
+    let w : Open = record c.in-Some.touched.now { writes = c.insert.new.self } in
+    on_ok_weaker c.insert.result (λ is.
+    changed m (c.get_mut.follows.lender w) t w ((c.get_mut.follows.holds w).3 (search rules)).0
+    ∙ ap (λ r. insert (as_map {R = txn_cmp} m) t (record c.in-Some.touched.now { writes = r })) is
+    ∙ ap (writes_in (as_map {R = txn_cmp} m) t c.args.key c.args.value) (sym (was m t (Some c.in-Some.touched.now) (sym c.in-Some.ensures.value)))
+    ∙ ap (λ n. writes_in n t c.args.key c.args.value (get n t)) c.self.view_is) c.insert.ensures.ok
+
+pub returns-in_default-clause-ok : goal.returns-in_default-clause-ok
+returns-in_default-clause-ok c =
+    let m = c.self.inside.opened in
+    let t = c.args.txn.now in
+    ap (as_map {R = txn_cmp}) c.get_mut.follows.holds-at-none
+    ∙ ap (writes_in (as_map {R = txn_cmp} m) t c.args.key c.args.value) (sym (was m t None (sym c.in_default.ensures.value)))
+    ∙ ap (λ n. writes_in n t c.args.key c.args.value (get n t)) c.self.view_is
+
+pub returns-clause-err : goal.returns-clause-err
+returns-clause-err c =
+    let w : Open = record c.in-Some.touched.now { writes = c.insert.new.self } in
+    on_err_weaker c.insert.result (λ is.
+    unchanged c.self.inside.opened (c.get_mut.follows.lender w) c.args.txn.now c.in-Some.touched.now w (sym c.in-Some.ensures.value) (c.get_mut.follows.holds w).0
+    (ap (λ r. record c.in-Some.touched.now { writes = r }) is)
+    ∙ c.self.view_is) c.insert.ensures.err

@@ -1,0 +1,5 @@
+pub mod After
+pub mod Inside
+pub mod State
+pub mod Steps
+pub mod Took

@@ -1,0 +1,17 @@
+//! What holds of the machine's steps by their definitions.
+ghost use Rattle.std.specs.Prelude.{◌≡◌, ◌↔◌, List, Some};
+ghost use Rattle.key_model.specs.State.{State};
+ghost use Rattle.key_model.specs.Steps.{Steps, Run};
+ghost use Rattle.key_model.specs.After.{after, after_all};
+ghost use Rattle.key_model.specs.declared.step.MachineStep.{MachineStep};
+
+/// A step leads from one state to another exactly where it makes that state of it. So each step
+/// leads to one state at most.
+pub fn steps_are_after()
+    ensures { (old : State) (step : MachineStep) (new : State) → Steps old step new ↔ (after old step ≡ Some new) }
+{}
+
+/// The same of steps one after another.
+pub fn runs_are_after_all()
+    ensures { (old : State) (steps : List MachineStep) (new : State) → Run old steps new ↔ (after_all (Some old) steps ≡ Some new) }
+{}

@@ -1,0 +1,20 @@
+//! The plain machine: one map and the open transactions, with no page, lease, message or log.
+//!
+//! It is what a user may think that the database is. Its step is a relation of an old state, a step
+//! and a new state, in `specs/Steps.antt`; the running [`Machine`] takes exactly the steps of it.
+#![tactic(auto)]
+
+mod closed;
+pub mod laws;
+mod machine;
+mod opened;
+mod sessions;
+mod step;
+#[cfg(test)]
+mod tests;
+mod values;
+
+pub use machine::Machine;
+pub use sessions::Session;
+pub use step::MachineStep;
+pub use values::{Entry, EntryList};
