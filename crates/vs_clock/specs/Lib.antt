@@ -1,0 +1,5 @@
+pub mod State
+pub mod Run
+pub mod Causes
+pub mod Laws
+pub mod Learnt
