@@ -1,0 +1,94 @@
+//! Leases by page, in the order of the pages.
+ghost use Rattle.std.specs.Prelude.{◌≡◌, ◌<◌, ◌≤◌, ◌^◌, ◌+◌, ℕ, OnOk, OnErr, IfSome, IfNone, IsSome, None, Some};
+ghost use Rattle.std.specs.Option.{option_copied};
+ghost use Rattle.std.specs.FinMap.{empty};
+ghost use Rattle.lease_desk.specs.Desk.{Leases};
+ghost use Rattle.std.specs.FinMap as map;
+ghost use Rattle.std.specs.BTreeMap as tree;
+ghost use Rattle.std.specs.Ordering.{nat_cmp};
+
+use crate::PageLease;
+use std::alloc::Global;
+use std::collections::BTreeMap;
+use std::marker::Model;
+use tm_base::{Mem, NoMemory};
+
+/// The lease of each page that was ever granted here. Contracts see a finite map.
+#[derive(Drop)]
+pub(crate) struct LeaseMap {
+    leases: BTreeMap<u32, PageLease>,
+}
+
+impl Model for LeaseMap {
+    ghost use Rattle.std.specs.FinMap.{from_entries};
+    ghost use Rattle.lease_desk.specs.Desk.{Leases, coded_leases};
+
+    ghost Value = { Leases };
+
+    ghost coded = { coded_leases };
+
+    ghost view = { λ m. from_entries m.leases.entries };
+}
+
+impl LeaseMap {
+    /// No leases.
+    pub(crate) fn new(alloc: Global) -> LeaseMap
+        ensures { result ≡ empty }
+    {
+        LeaseMap {
+            leases: BTreeMap::new(alloc),
+        }
+    }
+
+    /// What is kept of a page, if it was ever granted here.
+    pub(crate) fn get(&self, page: u32) -> Option<PageLease>
+        ensures { result ≡ map.get self.now page }
+    {
+        self.leases.get(&page).copied()
+    }
+
+    /// Keeps this of a page. Only a new page may want memory.
+    pub(crate) fn put(&mut self, page: u32, lease: PageLease) -> Mem<()>
+        ensures ok { OnOk result (self.new ≡ map.insert self.old page lease) }
+        ensures err { OnErr result (self.new ≡ self.old) }
+        ensures absent { OnErr result (map.get self.old page ≡ None) }
+    {
+        let _old = match self.leases.insert(page, lease) {
+            Ok(old) => old,
+            Err(_) => return Err(NoMemory),
+        };
+        Ok(())
+    }
+
+    /// Keeps this of a page that was granted here.
+    pub(crate) fn set(&mut self, page: u32, lease: PageLease)
+        requires { IsSome (map.get self.old page) }
+        ensures { self.new ≡ map.insert self.old page lease }
+    {
+        let _ = self.put(page, lease);
+    }
+
+    /// The first page with a number above `after`, and what is kept of it.
+    pub(crate) fn first_after(&self, after: u32) -> Option<(u32, PageLease)>
+        ensures there { IfSome result (λ e. (after < e.0) × (map.get self.now e.0 ≡ Some e.1)) }
+        ensures least { IfSome result (λ e. (page : ℕ) → after < page → page < e.0 → map.get self.now page ≡ None) }
+        ensures none { IfNone result ((page : ℕ) → after < page → page < 2 ^ 32 → map.get self.now page ≡ None) }
+    {
+        if after == u32::MAX {
+            return None;
+        }
+        first_from(&self.leases, after + 1)
+    }
+}
+
+/// The first entry whose number is at least `least`.
+fn first_from(leases: &BTreeMap<u32, PageLease>, least: u32) -> Option<(u32, PageLease)>
+    ensures there { IfSome result (λ e. (least ≤ e.0) × (tree.get nat_cmp leases.now e.0 ≡ Some e.1)) }
+    ensures first { IfSome result (λ e. (page : ℕ) → least ≤ page → IsSome (tree.get nat_cmp leases.now page) → e.0 ≤ page) }
+    ensures none { IfNone result ((page : ℕ) → least ≤ page → tree.get nat_cmp leases.now page ≡ None) }
+{
+    match leases.range(least..).next() {
+        Some((page, lease)) => Some((*page, *lease)),
+        None => None,
+    }
+}
