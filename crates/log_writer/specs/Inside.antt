@@ -1,0 +1,11 @@
+-- What the writer's log keeps beside its groups.
+use Rattle.std.specs.Prelude.{◌≡◌, ℕ, ◌<◌, ◌^◌, List, length}
+use Rattle.log_writer.specs.declared.logged.Logged.{Logged}
+use Rattle.log_writer.specs.Log.{reached}
+
+pub record IsKept (groups : List Logged) (first second third : ℕ) : Type 0 where
+  -- each number fits 32 bits
+  pub short : length groups < 2 ^ 32
+  pub first_is : first ≡ reached groups 1
+  pub second_is : second ≡ reached groups 2
+  pub third_is : third ≡ reached groups 3

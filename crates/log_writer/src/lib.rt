@@ -1,0 +1,16 @@
+//! A writer's own log, and which log stores acknowledged which of its groups.
+//!
+//! A group is durable once it and all groups before it are acknowledged by all three log stores
+//! (write-ahead logging). What a store lacks is sent to it again.
+#![tactic(auto)]
+
+mod acks;
+mod log_writer;
+mod logged;
+
+pub use acks::Acks;
+pub use log_writer::{LogWriter, RESENT};
+pub use logged::Logged;
+
+#[cfg(test)]
+mod tests;
