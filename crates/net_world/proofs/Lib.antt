@@ -1,0 +1,17 @@
+mod AgreeLemmas
+mod CauseLemmas
+mod CausesHold
+mod CausesTell
+mod DeliverLemmas
+mod FrontLemmas
+mod ListLemmas
+mod LogLemmas
+mod LogRuns
+mod MachineLemmas
+mod MachineRuns
+mod MapLemmas
+mod PutLemmas
+mod ReplyLemmas
+mod SettleLemmas
+mod StandLemmas
+mod TestLemmas
