@@ -52,12 +52,13 @@ def check_edit(top, path, faults):
     fields = re.findall(r"^(file|old|new): ?(.*)$", text_of(path), re.M)
     target = [value for field, value in fields if field == "file"]
     olds = [value for field, value in fields if field == "old"]
-    if len(target) != 1 or not olds:
-        faults.append(f"{path}: wants one line 'file:' and pairs of 'old:' and 'new:'")
+    if not target or not olds:
+        faults.append(f"{path}: wants a line 'file:' and pairs of 'old:' and 'new:'")
         return
-    if not target[0].startswith("src/"):
-        faults.append(f"{path}: edits {target[0]}, and only code may be edited")
-        return
+    for name in target:
+        if not name.startswith("src/"):
+            faults.append(f"{path}: edits {name}, and only code may be edited")
+            return
     found = text_of(f"{top}/{target[0]}").count(olds[0])
     if found != 1:
         faults.append(f"{path}: its first old text stands {found} times in {target[0]}")
