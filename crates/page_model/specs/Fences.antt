@@ -1,0 +1,31 @@
+-- Keys in order, and the fences that say which keys a page may have.
+use Rattle.std.specs.Prelude.{ℕ, Bool, true, not, ◌&&◌, List, Option, Some, None}
+use Rattle.std.specs.Ordering.{nat_cmp, is_lt}
+use Rattle.std.specs.Cmp.Lexicographic.{slice_cmp}
+
+-- Keys are ordered byte by byte.
+abbrev pub key_less : List ℕ → List ℕ → Bool
+key_less a b = is_lt (slice_cmp nat_cmp a b)
+
+-- A key is not below the low fence; an open one is below all keys.
+abbrev pub is_from : Option (List ℕ) → List ℕ → Bool
+is_from None key = true
+is_from (Some low) key = not (key_less key low)
+
+-- A key is above the low fence.
+abbrev pub is_above : Option (List ℕ) → List ℕ → Bool
+is_above None key = true
+is_above (Some low) key = key_less low key
+
+-- A key is below the high fence; an open one is above all keys.
+abbrev pub is_below : Option (List ℕ) → List ℕ → Bool
+is_below None key = true
+is_below (Some high) key = key_less key high
+
+-- A key may stand between the fences: from the low one on, and below the high one.
+abbrev pub is_within : Option (List ℕ) → Option (List ℕ) → List ℕ → Bool
+is_within low high key = is_from low key && is_below high key
+
+-- A key parts what is between the fences: some keys may stand on each side of it.
+abbrev pub is_strictly_within : Option (List ℕ) → Option (List ℕ) → List ℕ → Bool
+is_strictly_within low high key = is_above low key && is_below high key

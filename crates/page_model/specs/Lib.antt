@@ -1,0 +1,7 @@
+pub mod Fences
+pub mod Effects
+pub mod Versions
+pub mod Tree
+pub mod Splits
+pub mod Sound
+pub mod Tiling
