@@ -1,0 +1,31 @@
+use Rattle.std.proofs.Common.{ℕ, Bool, List, sym, ◌∙◌, arith}
+use Rattle.tm_data.specs.declared.image.Child.{Child}
+use Rattle.page_model.specs.Fences.{key_less}
+use Rattle.page_redo.specs.Places.{child_place}
+use Rattle.page_redo.proofs.PlaceLemmas.{shifted_none, passes, stops_before, stops_at, stops_last}
+use Rattle.page_redo.proofs.place.child_place.Goals as goal
+
+abbrev before : List ℕ → Child → Bool
+before key r = key_less r.key key
+
+abbrev after : List ℕ → Child → Bool
+after key r = key_less key r.key
+
+pub loop-at-init : goal.loop-at-init
+loop-at-init c = shifted_none (child_place c.args.entries.now c.args.key.now)
+
+pub returns-then-is_less-clause-place : goal.returns-then-is_less-clause-place
+returns-then-is_less-clause-place c =
+    stops_before (before c.args.key.now) (after c.args.key.now) c.args.entries.now c.loop-at.at c.index-entries-at.result (child_place c.args.entries.now c.args.key.now) (omega arith) c.index-entries-at.is (sym c.is_less.ensures ∙ c.if-not-is_less.true) (sym c.is_less-then-not-is_less.ensures ∙ c.if-is_less.true) c.loop-at.invariant
+
+pub returns-else-is_less-clause-place : goal.returns-else-is_less-clause-place
+returns-else-is_less-clause-place c =
+    stops_at (before c.args.key.now) (after c.args.key.now) c.args.entries.now c.loop-at.at c.index-entries-at.result (child_place c.args.entries.now c.args.key.now) (omega arith) c.index-entries-at.is (sym c.is_less.ensures ∙ c.if-not-is_less.true) (sym c.is_less-then-not-is_less.ensures ∙ c.if-is_less.false) c.loop-at.invariant
+
+pub loop-at-preserved : goal.loop-at-preserved
+loop-at-preserved c =
+    passes (before c.args.key.now) (after c.args.key.now) c.args.entries.now c.loop-at.at c.index-entries-at.result (child_place c.args.entries.now c.args.key.now) (omega arith) c.index-entries-at.is (sym c.is_less.ensures ∙ c.if-not-is_less.false) c.loop-at.invariant
+
+pub returns-clause-place : goal.returns-clause-place
+returns-clause-place c =
+    stops_last (before c.args.key.now) (after c.args.key.now) c.args.entries.now c.loop-at.at (child_place c.args.entries.now c.args.key.now) (omega arith) (omega arith) c.loop-at.invariant

@@ -1,0 +1,170 @@
+//! Which records suit which pages.
+ghost use Rattle.std.specs.Prelude.{◌≡◌, ◌+◌, min, length, sum_by, is_some, ◌≤◌};
+ghost use Rattle.tm_base.specs.Sizes.{MOST, row_size, child_size, fence_size};
+ghost use Rattle.page_model.specs.Effects.{rows_below, entries_below, row_set_in, cut_at, formatted, child_added, redone};
+ghost use Rattle.page_redo.specs.Places.{child_place, is_before, size_there, row_fits};
+
+use crate::keys::{is_less, is_strictly_within, is_within};
+use crate::place::{Place, child_place, row_place};
+use tm_base::{Body, Child, Image, Key, Page, Record, Row, row_size, size};
+
+/// An image has at most 8,192 bytes.
+const MAX_IMAGE: usize = 8192;
+
+/// Whether a record suits a page.
+pub(crate) fn suits(image: &Image, change: &Record) -> bool
+    ensures { result ≡ is_some (redone image.now.body change.now) }
+{
+    match change {
+        Record::RowSet { table, row, .. } => row_suits(image, *table, row),
+        Record::Cut { at, .. } => cut_suits(&image.body, at),
+        Record::Format { body, .. } => !matches!(body, Body::Blank),
+        Record::NodeAdd { key, child, .. } => child_suits(image, key, *child),
+        Record::End { .. } => false,
+        Record::Beat => false,
+    }
+}
+
+fn row_suits(image: &Image, table: u16, new: &Row) -> bool
+    ensures { result ≡ is_some (row_set_in image.now.body table new.entry.now) }
+{
+    match &image.body {
+        Body::Leaf {
+            table: own,
+            low,
+            high,
+            rows,
+        } => {
+            if *own != table {
+                return false;
+            }
+            if !is_within(low, high, &new.key) {
+                return false;
+            }
+            row_fits(size(image), rows.as_slice(), new)
+        }
+        _ => false,
+    }
+}
+
+/// Whether a page of this size may have this row set among these.
+fn row_fits(whole: usize, rows: &[Row], new: &Row) -> bool
+    ensures test { result ≡ row_fits whole rows.now new.entry.now }
+    ensures small { size_there rows.now new.entry.now.key ≤ 1101 }
+{
+    whole.saturating_add(row_size(new)) <= MAX_IMAGE + size_there(rows, &new.key)
+}
+
+/// The size of the row of that key, 0 where there is none.
+fn size_there(rows: &[Row], key: &Key) -> usize
+    ensures value { result ≡ size_there rows.now key.now }
+    ensures most { result ≤ 1101 }
+{
+    match row_place(rows, key) {
+        Place::At(at) => row_size(&rows[at]),
+        Place::Before(_) => 0,
+    }
+}
+
+fn cut_suits(body: &Body, at: &Key) -> bool
+    ensures { result ≡ is_some (cut_at body.now at.now) }
+{
+    match body {
+        Body::Blank => false,
+        Body::Leaf {
+            low,
+            high,
+            rows,
+            ..
+        } => {
+            is_strictly_within(low, high, at)
+                && rows_size_below(rows.as_slice(), at).saturating_add(
+                    18 + fence_size(low) + 1 + at.as_slice().len(),
+                ) <= MAX_IMAGE
+        }
+        Body::Inner {
+            low,
+            high,
+            entries,
+            ..
+        } => {
+            is_strictly_within(low, high, at)
+                && entries_size_below(entries.as_slice(), at).saturating_add(
+                    22 + fence_size(low) + 1 + at.as_slice().len(),
+                ) <= MAX_IMAGE
+        }
+    }
+}
+
+fn fence_size(fence: &Option<Key>) -> usize
+    ensures value { result ≡ fence_size fence.now }
+    ensures most { result ≤ 65 }
+{
+    match fence {
+        Some(key) => 1 + key.as_slice().len(),
+        None => 1,
+    }
+}
+
+fn rows_size_below(rows: &[Row], at: &Key) -> usize
+    ensures { result ≡ min (sum_by row_size (rows_below at.now rows.now)) MOST }
+{
+    let mut total: usize = 0;
+    for item in rows {
+        if is_less(&item.key, at) {
+            total = total.saturating_add(row_size(item));
+        }
+    }
+    total
+}
+
+fn child_size(child: &Child) -> usize
+    ensures value { result ≡ child_size child.now }
+    ensures most { result ≤ 69 }
+{
+    5 + child.key.as_slice().len()
+}
+
+fn entries_size_below(entries: &[Child], at: &Key) -> usize
+    ensures { result ≡ min (sum_by child_size (entries_below at.now entries.now)) MOST }
+{
+    let mut total: usize = 0;
+    for item in entries {
+        if is_less(&item.key, at) {
+            total = total.saturating_add(child_size(item));
+        }
+    }
+    total
+}
+
+fn child_suits(image: &Image, key: &Key, child: Page) -> bool
+    ensures { result ≡ is_some (child_added image.now.body (record { key = key.now; page = child })) }
+{
+    match &image.body {
+        Body::Inner {
+            low,
+            high,
+            entries,
+            ..
+        } => {
+            if !is_within(low, high, key) {
+                return false;
+            }
+            if !is_new(entries.as_slice(), key) {
+                return false;
+            }
+            size(image).saturating_add(5 + key.as_slice().len()) <= MAX_IMAGE
+        }
+        _ => false,
+    }
+}
+
+/// Whether no child has the key.
+fn is_new(entries: &[Child], key: &Key) -> bool
+    ensures { result ≡ is_before (child_place entries.now key.now) }
+{
+    match child_place(entries, key) {
+        Place::At(_) => false,
+        Place::Before(_) => true,
+    }
+}
