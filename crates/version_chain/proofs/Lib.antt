@@ -1,0 +1,5 @@
+mod AddLemmas
+mod ChainLemmas
+mod MapLemmas
+mod PathLemmas
+mod PlaceLemmas

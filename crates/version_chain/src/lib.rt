@@ -1,0 +1,18 @@
+//! Version chains: the records that are held of each page, and the versions of the pages that they make.
+//!
+//! A record says on which older version it was made, so the records of a page are a chain down to its
+//! first image. A version is made by walking down from its stamp and applying the records on the way up
+//! again.
+#![tactic(auto)]
+
+mod chain;
+mod chain_map;
+mod chains;
+mod error;
+mod place;
+#[cfg(test)]
+mod tests;
+mod version;
+
+pub use chains::Chains;
+pub use error::{AddError, VersionError};
