@@ -1,0 +1,83 @@
+//! Where a key leads from an inner page.
+ghost use Rattle.std.specs.Prelude.{◌≡◌, ◌≤◌, length, drop};
+ghost use Rattle.std.specs.Option.{option_copied};
+ghost use Rattle.page_model.specs.Sound.{Ascend, child_key};
+ghost use Rattle.page_model.specs.Tree.{child_for, is_at, is_of, next_fence};
+ghost use Rattle.row_tree.specs.Inside.{place_of, ArePartedAt};
+
+use crate::fence::{fence_bytes, high_of, is_less, low_of, same_fence};
+use tm_base::{Body, Child, Key, Page};
+
+/// A page as its parent gives it: for the keys from the low fence on and below the high one.
+#[derive(Clone, Copy)]
+pub(crate) struct Place<'a> {
+    pub(crate) page: Page,
+    pub(crate) low: Option<&'a [u8]>,
+    pub(crate) high: Option<&'a [u8]>,
+}
+
+/// How many entries from the first on have keys that are at most this one. It looks at a few by halving.
+fn entries_up_to(entries: &[Child], key: &[u8]) -> usize
+    ensures bound { result ≤ length entries.now }
+    ensures parted { Ascend child_key entries.now → ArePartedAt key.now entries.now result }
+{
+    entries.partition_point(|entry: &Child| !is_less(key, entry.key.as_slice()))
+}
+
+/// Up to where the keys of the page before the entry number `at` go.
+fn next_fence<'a>(entries: &'a [Child], at: usize, high: &'a Option<Key>) -> Option<&'a [u8]>
+    requires { at ≤ length entries.now }
+    ensures { option_copied result ≡ next_fence (drop at entries.now) high.now }
+{
+    if at == entries.len() {
+        return fence_bytes(high);
+    }
+    Some(entries[at].key.as_slice())
+}
+
+/// The child to which a key leads.
+pub(crate) fn child_for<'a>(
+    key: &[u8],
+    low: &'a Option<Key>,
+    high: &'a Option<Key>,
+    first: Page,
+    entries: &'a [Child],
+) -> Place<'a>
+    ensures { Ascend child_key entries.now →
+        place_of result ≡ child_for key.now low.now high.now first entries.now }
+{
+    let count = entries_up_to(entries, key);
+    let high = next_fence(entries, count, high);
+    if count == 0 {
+        return Place {
+            page: first,
+            low: fence_bytes(low),
+            high,
+        };
+    }
+    let entry = &entries[count - 1];
+    Place {
+        page: entry.page,
+        low: Some(entry.key.as_slice()),
+        high,
+    }
+}
+
+fn is_of(table: u16, body: &Body) -> bool
+    ensures { result ≡ is_of table body.now }
+{
+    match body {
+        Body::Blank => false,
+        Body::Leaf { table: of, .. } => *of == table,
+        Body::Inner { table: of, .. } => *of == table,
+    }
+}
+
+/// Whether what a page holds is of the table and has the fences that the place gives it.
+pub(crate) fn is_at(table: u16, place: &Place<'_>, body: &Body) -> bool
+    ensures { result ≡ is_at table (place_of place.now) body.now }
+{
+    is_of(table, body)
+        && same_fence(low_of(body), place.low)
+        && same_fence(high_of(body), place.high)
+}
