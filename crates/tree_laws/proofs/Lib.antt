@@ -1,0 +1,12 @@
+pub mod FenceLemmas
+pub mod ListLemmas
+pub mod PlaceLemmas
+pub mod ThereLemmas
+pub mod PageSplit
+pub mod RootSplit
+pub mod SetLemmas
+pub mod RowPut
+pub mod GroupLemmas
+pub mod FitLemmas
+pub mod MapLemmas
+pub mod WayLemmas

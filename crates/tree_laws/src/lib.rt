@@ -1,0 +1,66 @@
+//! What is true of a table's tree: laws over the definitions of `page_model` alone.
+//!
+//! Whether a group of records keeps the tiling of a table is decided by the images that it names: a
+//! group that fits these keeps it, wherever the rest of the tree stands. A law is the contract of a
+//! function that does nothing: a caller that calls it has the law among its facts.
+#![tactic(auto)]
+
+ghost use Rattle.std.specs.Prelude.{◌≡◌, ◌≤◌, ℕ, List, Ok, length};
+ghost use Rattle.std.specs.Ordering.{nat_cmp};
+ghost use Rattle.std.specs.Cmp.Lexicographic.{slice_cmp};
+ghost use Rattle.std.specs.FinMap.{FinMap, insert};
+ghost use Rattle.tm_data.specs.declared.transaction.Page.{Page};
+ghost use Rattle.tm_data.specs.declared.row.Row.{Row};
+ghost use Rattle.tm_data.specs.declared.image.Image.{Image};
+ghost use Rattle.tm_data.specs.declared.log.Record.{Record};
+ghost use Rattle.page_model.specs.Tree.{Images, path_of};
+ghost use Rattle.page_model.specs.Splits.{Halves};
+ghost use Rattle.page_model.specs.Tiling.{Tiles, IsMap, Fits, FitInTurn, PutsRow, Splits, SplitsRoot, after, after_all};
+ghost use Rattle.tree_laws.specs.Claims.{SameRows, SetsRow};
+
+/// Tiling is local: where a set of images tiles a table and a group fits the images that it names, the
+/// images after the group tile the table.
+pub fn a_fitting_group_keeps_the_tiling()
+    ensures { (images : Images) (stamp : ℕ) (group : List Record) (table : ℕ)
+        → Tiles images table → Fits images stamp group table → Tiles (after images group stamp) table }
+{}
+
+/// The same of groups that fit one after another.
+pub fn fitting_groups_keep_the_tiling()
+    ensures { (images : Images) (stamp : ℕ) (groups : List (List Record)) (table : ℕ)
+        → Tiles images table → FitInTurn images stamp groups table → Tiles (after_all images groups stamp) table }
+{}
+
+/// A put of a row that fits sets that row, and changes no other one.
+pub fn a_put_sets_its_row()
+    ensures { (images : Images) (stamp : ℕ) (group : List Record) (table : ℕ) (row : Row) (leaf : Image)
+        → Tiles images table → PutsRow images stamp group table row leaf
+        → SetsRow images (after images group stamp) table row }
+{}
+
+/// A split of a page under its parent changes no row.
+pub fn a_split_keeps_the_rows()
+    ensures { (images : Images) (stamp : ℕ) (group : List Record) (table : ℕ) (page parent : Image) (h : Halves) (fresh : Page)
+        → Tiles images table → Splits images stamp group table page parent h fresh
+        → SameRows images (after images group stamp) table }
+{}
+
+/// A split of a root changes no row.
+pub fn a_root_split_keeps_the_rows()
+    ensures { (images : Images) (stamp : ℕ) (group : List Record) (table : ℕ) (page : Image) (h : Halves) (left right : Page)
+        → Tiles images table → SplitsRoot images stamp group table page h left right
+        → SameRows images (after images group stamp) table }
+{}
+
+/// A table that is a finite map is one with the row set after a put that fits.
+pub fn a_put_sets_the_map()
+    ensures { (images : Images) (stamp : ℕ) (group : List Record) (table : ℕ) (row : Row) (leaf : Image) (m : FinMap (slice_cmp nat_cmp) Row)
+        → Tiles images table → PutsRow images stamp group table row leaf → IsMap images table m
+        → IsMap (after images group stamp) table (insert m row.key row) }
+{}
+
+/// Where images tile a table, every key has a path, of at most six pages.
+pub fn every_key_has_a_path()
+    ensures { (images : Images) (table : ℕ) (key : List ℕ) → Tiles images table
+        → (path : List Page) × (path_of images table key ≡ Ok path) × (length path ≤ 6) }
+{}
