@@ -1,0 +1,3 @@
+mod AppendLemmas
+mod FitLemmas
+mod LogsLemmas
