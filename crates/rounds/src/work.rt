@@ -1,0 +1,140 @@
+//! The table of works.
+ghost use Rattle.std.specs.Prelude.{◌≡◌};
+ghost use Rattle.node_messages.specs.Spelling.{message_bytes, IsMessage};
+
+use crate::codec::{read_group, read_image, read_message, write_group, write_image, write_message};
+use crate::failure::Failure;
+use crate::locks::{ask, release, request};
+use crate::log::{acknowledge, append, fetch};
+use crate::sample::{Sample, bytes};
+use std::alloc::Global;
+use tm_base::Message;
+
+/// What is done in each round.
+#[derive(Clone, Copy)]
+pub enum Work {
+    /// The bytes of a value are made.
+    Encode(Sample),
+    /// The value of bytes is made.
+    Decode(Sample),
+    /// The next group is appended at a log store, behind so many.
+    Append(u32),
+    /// The last group of so many is fetched from a log store.
+    Fetch(u32),
+    /// A store's acknowledgement of a group is noted, behind so many.
+    Acknowledge(u32),
+    /// A leased page is requested, of so many.
+    Request(u32),
+    /// A page is released and leased again, of so many.
+    Release(u32),
+    /// A transaction's fate is asked for, where so many pages are leased.
+    Ask(u32),
+}
+
+fn number(word: &str) -> Option<u32> {
+    match word.parse::<u32>() {
+        Ok(number) => Some(number),
+        Err(_) => None,
+    }
+}
+
+impl Work {
+    // The work that two words name.
+    fn named(verb: &str, what: &str) -> Option<Work> {
+        match verb {
+            "encode" => Some(Work::Encode(Sample::named(what)?)),
+            "decode" => Some(Work::Decode(Sample::named(what)?)),
+            "append" => Some(Work::Append(number(what)?)),
+            "fetch" => Some(Work::Fetch(number(what)?)),
+            "acknowledge" => Some(Work::Acknowledge(number(what)?)),
+            "request" => Some(Work::Request(number(what)?)),
+            "release" => Some(Work::Release(number(what)?)),
+            "ask" => Some(Work::Ask(number(what)?)),
+            _ => None,
+        }
+    }
+
+    /// The work and the number of rounds that the words of a command line name.
+    pub fn read(words: &[String]) -> Option<(Work, u32)> {
+        if words.len() != 3 {
+            return None;
+        }
+        let work = Work::named(words[0].as_str(), words[1].as_str())?;
+        Some((work, number(words[2].as_str())?))
+    }
+}
+
+fn images(alloc: Global, encode: bool, sample: Sample, rounds: u32) -> Result<u64, Failure> {
+    let bytes = bytes(alloc, sample)?;
+    let image = page_image::decode(alloc, &bytes)?;
+    if encode {
+        Ok(write_image(alloc, &image, rounds)?)
+    } else {
+        Ok(read_image(alloc, &image, &bytes, rounds)?)
+    }
+}
+
+fn groups(alloc: Global, encode: bool, sample: Sample, rounds: u32) -> Result<u64, Failure> {
+    let bytes = bytes(alloc, sample)?;
+    let group = log_record::decode(alloc, &bytes)?;
+    if encode {
+        Ok(write_group(alloc, &group, rounds)?)
+    } else {
+        Ok(read_group(alloc, &group, &bytes, rounds)?)
+    }
+}
+
+/// Messages that are worked on have at most 16 MiB.
+const MAX_MESSAGE: usize = 16_777_216;
+
+// Writes a message, or reads its bytes, so many times.
+fn worked(
+    alloc: Global,
+    encode: bool,
+    message: &Message,
+    bytes: &[u8],
+    rounds: u32,
+) -> Result<u64, Failure>
+    requires spelled { IsMessage message.now }
+    requires so { bytes.now ≡ message_bytes message.now }
+{
+    if bytes.len() > MAX_MESSAGE || message.stamp.0 > 1 {
+        return Err(Failure::Refused);
+    }
+    if encode {
+        Ok(write_message(alloc, message, rounds)?)
+    } else {
+        Ok(read_message(alloc, message, bytes, rounds)?)
+    }
+}
+
+fn messages(alloc: Global, encode: bool, sample: Sample, rounds: u32) -> Result<u64, Failure> {
+    let bytes = bytes(alloc, sample)?;
+    let message = node_messages::decode(alloc, &bytes)?;
+    worked(alloc, encode, &message, &bytes, rounds)
+}
+
+// Writes or reads a sample so many times.
+fn coded(alloc: Global, encode: bool, sample: Sample, rounds: u32) -> Result<u64, Failure> {
+    match sample {
+        Sample::FullLeaf | Sample::HalfLeaf | Sample::WideLeaf => {
+            images(alloc, encode, sample, rounds)
+        }
+        Sample::SmallGroup => groups(alloc, encode, sample, rounds),
+        Sample::Grant | Sample::Groups => messages(alloc, encode, sample, rounds),
+    }
+}
+
+/// Does the work so many times. Gives the checksum.
+pub fn done(alloc: Global, work: Work, rounds: u32) -> Result<u64, Failure> {
+    match work {
+        Work::Encode(sample) => coded(alloc, true, sample, rounds),
+        Work::Decode(sample) => coded(alloc, false, sample, rounds),
+        Work::Append(groups) => Ok(append(alloc, groups, rounds)? as u64),
+        Work::Fetch(groups) => Ok(fetch(alloc, groups, rounds)? as u64),
+        Work::Acknowledge(groups) => Ok(acknowledge(alloc, groups, rounds)? as u64),
+        Work::Request(pages) => Ok(request(alloc, pages, rounds)? as u64),
+        Work::Release(pages) => Ok(release(alloc, pages, rounds)? as u64),
+        Work::Ask(pages) => Ok(ask(alloc, pages, rounds)? as u64),
+    }
+}
