@@ -1,2 +1,6 @@
+mod ChainLemmas
+mod HoldLemmas
 mod LogLemmas
+mod PageLemmas
 mod ToldLemmas
+mod WholeLemmas

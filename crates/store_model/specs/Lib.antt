@@ -1,3 +1,7 @@
 pub mod LogFacts
 pub mod LogState
 pub mod LogStep
+pub mod PageFacts
+pub mod PageReads
+pub mod PageState
+pub mod PageStep
