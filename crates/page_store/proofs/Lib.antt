@@ -1,0 +1,2 @@
+mod IntakeLemmas
+mod StateLemmas

@@ -1,0 +1,16 @@
+//! A page store: it takes the groups of every writer's log in their order, and answers its pages at any
+//! version or scalar.
+//!
+//! Its step, its tick and its reads are exactly those of `store_model`.
+#![tactic(auto)]
+
+mod intake;
+mod number_map;
+mod page_store;
+mod share;
+mod state;
+#[cfg(test)]
+mod tests;
+
+pub use page_store::PageStore;
+pub use store_model::ReadRefusal;
