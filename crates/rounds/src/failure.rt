@@ -1,6 +1,7 @@
 //! Why a work ended before its last round.
 use std::alloc::AllocError;
-use tm_base::NoMemory;
+use tm_base::{LengthError, NoMemory};
+use version_chain::{AddError, VersionError};
 use wire_fields::ReadError;
 
 /// Why a work ended before its last round.
@@ -28,6 +29,33 @@ impl From<ReadError> for Failure {
     fn from(error: ReadError) -> Failure {
         match error {
             ReadError::NoMemory => Failure::NoMemory,
+            _ => Failure::Refused,
+        }
+    }
+}
+
+impl From<LengthError> for Failure {
+    fn from(error: LengthError) -> Failure {
+        match error {
+            LengthError::NoMemory => Failure::NoMemory,
+            _ => Failure::Refused,
+        }
+    }
+}
+
+impl From<AddError> for Failure {
+    fn from(error: AddError) -> Failure {
+        match error {
+            AddError::NoMemory => Failure::NoMemory,
+            _ => Failure::Refused,
+        }
+    }
+}
+
+impl From<VersionError> for Failure {
+    fn from(error: VersionError) -> Failure {
+        match error {
+            VersionError::NoMemory => Failure::NoMemory,
             _ => Failure::Refused,
         }
     }

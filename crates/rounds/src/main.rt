@@ -10,6 +10,7 @@ mod codec;
 mod failure;
 mod locks;
 mod log;
+mod pages;
 mod sample;
 mod work;
 

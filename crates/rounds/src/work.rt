@@ -6,6 +6,7 @@ use crate::codec::{read_group, read_image, read_message, write_group, write_imag
 use crate::failure::Failure;
 use crate::locks::{ask, release, request};
 use crate::log::{acknowledge, append, fetch};
+use crate::pages::{add, read};
 use crate::sample::{Sample, bytes};
 use std::alloc::Global;
 use tm_base::Message;
@@ -29,6 +30,10 @@ pub enum Work {
     Release(u32),
     /// A transaction's fate is asked for, where so many pages are leased.
     Ask(u32),
+    /// A record of a page is added, after so many.
+    AddRecord(u32),
+    /// The newest version of a page is read, which so many records make.
+    ReadPage(u32),
 }
 
 fn number(word: &str) -> Option<u32> {
@@ -50,6 +55,8 @@ impl Work {
             "request" => Some(Work::Request(number(what)?)),
             "release" => Some(Work::Release(number(what)?)),
             "ask" => Some(Work::Ask(number(what)?)),
+            "add-record" => Some(Work::AddRecord(number(what)?)),
+            "read-page" => Some(Work::ReadPage(number(what)?)),
             _ => None,
         }
     }
@@ -136,5 +143,7 @@ pub fn done(alloc: Global, work: Work, rounds: u32) -> Result<u64, Failure> {
         Work::Request(pages) => Ok(request(alloc, pages, rounds)? as u64),
         Work::Release(pages) => Ok(release(alloc, pages, rounds)? as u64),
         Work::Ask(pages) => Ok(ask(alloc, pages, rounds)? as u64),
+        Work::AddRecord(length) => add(alloc, length, rounds),
+        Work::ReadPage(length) => read(alloc, length, rounds),
     }
 }
