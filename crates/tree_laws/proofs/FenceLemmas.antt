@@ -1,11 +1,10 @@
 -- Fences and the keys between them.
-use Rattle.std.proofs.Common.{◌≡◌, ℕ, ◌+◌, Bool, true, false, not, ◌&&◌, nat_eq, List, [], ◌∷◌, Option, Some, None, refl, sym, ap, ◌∙◌, arith}
+use Rattle.std.proofs.Common.{◌≡◌, ℕ, Bool, true, false, not, ◌&&◌, nat_eq, List, [], ◌∷◌, Option, Some, None, refl, sym, ap, ◌∙◌, arith}
 use Rattle.std.proofs.lemmas.Bool.Decides.{nat_tests}
-use Rattle.std.specs.Cmp.{IsEquivalence}
 use Rattle.std.specs.Cmp.Lexicographic.{pointwise, nat_list_eq_equiv}
 use Rattle.page_model.specs.Fences.{key_less, is_from, is_above, is_below, is_within, is_strictly_within}
 use Rattle.page_model.specs.Tree.{same_fence}
-use Rattle.page_model.proofs.KeyLemmas.{less_trans, not_both, up_to_less, less_up_to, up_to_trans, not_less_itself, Compared, Below, Same, Above, compared}
+use Rattle.page_model.proofs.KeyLemmas.{less_trans, not_both, up_to_trans}
 
 pub both : (a b : Bool) → (a && b) ≡ true → (a ≡ true) × (b ≡ true)
 both true b h = (refl, h)

@@ -1,20 +1,19 @@
 -- A group that fits keeps the tiling.
-use Rattle.std.proofs.Common.{◌≡◌, ◌≢◌, ℕ, ◌+◌, ◌≤◌, ◌<◌, Bool, true, false, cond, nat_eq, List, [], ◌∷◌, ◌++◌, length, Option, Some, None, refl, sym, ap, ◌∙◌, subst, arith, inl, inr, ◌⊎◌}
-use Rattle.std.specs.List.{AllByRecursion}
+use Rattle.std.proofs.Common.{◌≡◌, ◌≢◌, ℕ, ◌+◌, ◌≤◌, true, nat_eq, List, [], ◌∷◌, length, Some, None, refl, sym, ap, ◌∙◌, subst, arith, inl, inr}
 use Rattle.std.proofs.lemmas.Bool.Decides.{nat_tests}
 use Rattle.tm_data.specs.declared.transaction.Page.{Page}
 use Rattle.tm_data.specs.declared.row.Row.{Row}
 use Rattle.tm_data.specs.declared.image.Child.{Child}
 use Rattle.tm_data.specs.declared.image.Image.{Image}
 use Rattle.tm_data.specs.declared.image.Body.{Body}
-use Rattle.tm_data.specs.declared.image.Body.TheVariants.{Blank, Leaf, Inner}
+use Rattle.tm_data.specs.declared.image.Body.TheVariants.{Leaf, Inner}
 use Rattle.tm_data.specs.declared.log.Record.{Record}
 use Rattle.tm_data.specs.declared.log.Record.TheVariants.{RowSet, Cut, Format, NodeAdd}
-use Rattle.tm_base.specs.Sizes.{size_with, fence_size}
-use Rattle.page_model.specs.Fences.{is_within, is_strictly_within}
-use Rattle.page_model.specs.Effects.{row_set, row_set_in, stamped, redone_at, child_added}
-use Rattle.page_model.specs.Tree.{Images, Place, level_of, table_of, low_of, high_of, is_of, children, child_for}
-use Rattle.page_model.specs.Splits.{Halves, Spot, spot_of, row_group, split_group, root_group, root_over}
+use Rattle.tm_base.specs.Sizes.{fence_size}
+use Rattle.page_model.specs.Fences.{is_within}
+use Rattle.page_model.specs.Effects.{row_set, row_set_in, stamped, child_added}
+use Rattle.page_model.specs.Tree.{Images, level_of, table_of, low_of, high_of, is_of, children, child_for}
+use Rattle.page_model.specs.Splits.{Halves, root_over}
 use Rattle.page_model.specs.Sound.{IsSound, IsSoundChild, AreFences, child_key}
 use Rattle.page_model.specs.Tiling.{Has, Tiles, HasRow, changed, after, after_all, blank_page, PutsRow, Splits, SplitsRoot, Fits, FitInTurn}
 use Rattle.tree_laws.specs.Claims.{SetsRow}

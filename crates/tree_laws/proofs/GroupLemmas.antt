@@ -1,17 +1,15 @@
 -- What a group of records makes of the images.
-use Rattle.std.proofs.Common.{◌≡◌, ◌≢◌, ℕ, ◌+◌, ◌≤◌, ◌<◌, Bool, true, false, ◌&&◌, cond, nat_eq, nat_lt, nat_le, List, [], ◌∷◌, length, Option, Some, None, refl, sym, ap, ◌∙◌, subst, arith, inl, inr}
+use Rattle.std.proofs.Common.{◌≡◌, ◌≢◌, ℕ, ◌≤◌, ◌<◌, Bool, true, false, ◌&&◌, cond, nat_eq, nat_lt, nat_le, List, [], ◌∷◌, length, Option, Some, None, refl, sym, ap, ◌∙◌, subst, arith}
 use Rattle.std.proofs.lemmas.Bool.Decides.{nat_tests}
 use Rattle.tm_data.specs.declared.transaction.Page.{Page}
 use Rattle.tm_data.specs.declared.row.Row.{Row}
 use Rattle.tm_data.specs.declared.image.Child.{Child}
-use Rattle.tm_data.specs.declared.image.Image.{Image}
 use Rattle.tm_data.specs.declared.image.Body.{Body}
 use Rattle.tm_data.specs.declared.image.Body.TheVariants.{Blank, Leaf, Inner}
 use Rattle.tm_data.specs.declared.log.Record.{Record}
-use Rattle.tm_data.specs.declared.log.Record.TheVariants.{RowSet, Cut, Format, NodeAdd}
 use Rattle.tm_base.specs.Sizes.{size_with, fence_size}
 use Rattle.page_model.specs.Fences.{is_within}
-use Rattle.page_model.specs.Effects.{row_set, row_set_in, suiting, fitting, formatted, child_added, with_entries, entry_added, stamped, redone_at}
+use Rattle.page_model.specs.Effects.{row_set, row_set_in, suiting, fitting, formatted, child_added, with_entries, entry_added}
 use Rattle.page_model.specs.Tree.{Images, is_of, low_of}
 use Rattle.page_model.specs.Splits.{changed_page, placed}
 use Rattle.page_model.specs.Sound.{IsSound}
@@ -89,7 +87,7 @@ formatted_is table Blank h = cc
 formatted_is table (Leaf of low high rows) h = refl
 formatted_is table (Inner of level low high first entries) h = refl
 
-fits_is : (b : Body) → size_with b ≤ 8192 → fitting b ≡ Some b
+pub fits_is : (b : Body) → size_with b ≤ 8192 → fitting b ≡ Some b
 fits_is b le = let e : nat_le (size_with b) 8192 ≡ true = grind (arith, nat_tests) in ap (λ t. cond t (Some b) None) e
 
 pub set_is : (table : ℕ) (low high : Option (List ℕ)) (rows : List Row) (row : Row) → is_within low high row.key ≡ true → size_with (Leaf table low high (row_set rows row)) ≤ 8192

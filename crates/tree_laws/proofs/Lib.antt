@@ -10,3 +10,11 @@ pub mod GroupLemmas
 pub mod FitLemmas
 pub mod MapLemmas
 pub mod WayLemmas
+pub mod LeafHalves
+pub mod LeafParted
+pub mod InnerParted
+pub mod ChainLemmas
+pub mod StepFits
+pub mod PlanFits
+pub mod PathFits
+pub mod PlanLaw

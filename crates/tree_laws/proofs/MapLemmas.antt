@@ -1,5 +1,5 @@
 -- A table as a finite map.
-use Rattle.std.proofs.Common.{◌≡◌, ◌≢◌, ℕ, Bool, true, false, cond, List, Option, Some, None, refl, sym, ap, ◌∙◌, subst, inl, inr, ◌⊎◌}
+use Rattle.std.proofs.Common.{◌≡◌, ◌≢◌, ℕ, true, false, cond, List, Some, refl, sym, ap, ◌∙◌, subst, inl, inr, ◌⊎◌}
 use Rattle.std.specs.Ordering.{nat_cmp, is_eq}
 use Rattle.std.specs.Cmp.{tied_itself}
 use Rattle.std.specs.Cmp.Lexicographic.{slice_cmp, nat_list_cmp_total}
@@ -11,7 +11,7 @@ use Rattle.tm_data.specs.declared.row.Row.{Row}
 use Rattle.page_model.specs.Fences.{key_less}
 use Rattle.page_model.specs.Tree.{Images}
 use Rattle.page_model.specs.Tiling.{HasRow, IsMap}
-use Rattle.page_model.proofs.KeyLemmas.{Compared, Below, Same, Above, compared, not_less_itself}
+use Rattle.page_model.proofs.KeyLemmas.{Below, Same, Above, compared, not_less_itself}
 use Rattle.tree_laws.specs.Claims.{SetsRow}
 
 one_key_or : (a b : List ℕ) → (a ≡ b) ⊎ (a ≢ b)

@@ -1,20 +1,19 @@
 -- A page that splits under its parent keeps the tiling.
-use Rattle.std.proofs.Common.{◌≡◌, ◌≢◌, ℕ, ◌+◌, ◌≤◌, ◌<◌, Bool, true, false, List, [], ◌∷◌, ◌++◌, length, Option, Some, None, refl, sym, ap, ◌∙◌, subst, arith, inl, inr, ◌⊎◌}
+use Rattle.std.proofs.Common.{◌≡◌, ◌≢◌, ℕ, ◌+◌, ◌≤◌, true, false, List, [], ◌∷◌, ◌++◌, length, Some, refl, sym, ap, ◌∙◌, subst, arith, inl, inr, ◌⊎◌}
 use Rattle.std.specs.List.{AllByRecursion, Contains}
 use Rattle.std.specs.Prelude.{IsSome}
-use Rattle.tm_data.specs.declared.transaction.Page.{Page}
 use Rattle.tm_data.specs.declared.image.Image.{Image}
 use Rattle.tm_data.specs.declared.image.Body.{Body}
 use Rattle.tm_data.specs.declared.image.Body.TheVariants.{Blank, Leaf, Inner}
-use Rattle.page_model.specs.Fences.{is_from, is_above, is_below, is_within, is_strictly_within}
-use Rattle.page_model.specs.Tree.{Images, Place, level_of, table_of, low_of, high_of, is_of, may_hold, children, there, one_below}
+use Rattle.page_model.specs.Fences.{is_from, is_below, is_within}
+use Rattle.page_model.specs.Tree.{Images, Place, level_of, low_of, high_of, is_of, may_hold, children, there, one_below}
 use Rattle.page_model.specs.Sound.{IsSound}
 use Rattle.page_model.specs.Splits.{Halves}
 use Rattle.page_model.specs.Tiling.{Has, Tiles, AreHalves, AreApart, HasRow, rows_of}
 use Rattle.tm_data.specs.declared.row.Row.{Row}
 use Rattle.std.proofs.lemmas.List.Elements.{Contains-append_left, Contains-append_right, Contains-append_cases}
 use Rattle.tree_laws.proofs.ListLemmas.{all_join, all_front, all_back, all_map, all_both}
-use Rattle.tree_laws.proofs.FenceLemmas.{both, both_true, above_from, strictly_within, left_holds, right_holds, halves_apart}
+use Rattle.tree_laws.proofs.FenceLemmas.{both, strictly_within, left_holds, right_holds, halves_apart}
 use Rattle.tree_laws.proofs.PlaceLemmas.{IsInside, children_inside}
 use Rattle.tree_laws.proofs.ThereLemmas.{IsThere, there_from, there_to, IsRoot, root_from, root_to, of_is, one_image, blank_not_of, one_number}
 
@@ -123,6 +122,17 @@ module _ (images images' : Images) (table p f q stamp : ℕ) (i j z : Image) (h 
       stays level pl t
       (λ e. let l = ap (λ (m : Image). level_of m.body) (is_page pl.page.0 t.image has e) in let b = t.below in absurd (omega (arith, l, is, b)))
       (λ e. let l = ap (λ (m : Image). level_of m.body) (is_parent pl.page.0 t.image has e) in let b = t.below in let k = s.level in absurd (omega (arith, l, is, b, k)))
+
+  pub deeper_stays : (level : ℕ) (pl : Place) → level ≤ level_of i.body → IsThere images table level pl → IsThere images' table level pl
+  deeper_stays level pl le t =
+      let has : Has images table pl.page.0 t.image = record { held = t.at; of = t.of } in
+      stays level pl t
+      (λ e. let l = ap (λ (m : Image). level_of m.body) (is_page pl.page.0 t.image has e) in let b = t.below in absurd (omega (arith, l, le, b)))
+      (λ e. let l = ap (λ (m : Image). level_of m.body) (is_parent pl.page.0 t.image has e) in let b = t.below in let k = s.level in absurd (omega (arith, l, le, b, k)))
+
+  pub deeper_same : (level : ℕ) (pl : Place) (le : level ≤ level_of i.body) (t : IsThere images table level pl) → (deeper_stays level pl le t).image ≡ t.image
+  unfolding deeper_stays stays
+  deeper_same level pl le t = refl
 
   -- the other children of the parent
   holds_separator : is_within (low_of i.body) (high_of i.body) h.separator ≡ true

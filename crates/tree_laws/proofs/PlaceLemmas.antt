@@ -1,17 +1,17 @@
 -- The places of an inner page's children.
-use Rattle.std.proofs.Common.{◌≡◌, ℕ, ◌+◌, Bool, true, false, not, cond, List, [], ◌∷◌, ◌++◌, Option, Some, None, refl, sym, ap, ◌∙◌, subst, arith}
+use Rattle.std.proofs.Common.{◌≡◌, ℕ, Bool, true, false, not, cond, List, [], ◌∷◌, ◌++◌, Option, Some, None, refl, sym, ap, ◌∙◌, subst}
 use Rattle.std.specs.List.{AllByRecursion}
 use Rattle.tm_data.specs.declared.transaction.Page.{Page}
 use Rattle.tm_data.specs.declared.image.Child.{Child}
 use Rattle.tm_data.specs.declared.image.Body.{Body}
 use Rattle.tm_data.specs.declared.image.Body.TheVariants.{Blank, Leaf, Inner}
-use Rattle.page_model.specs.Fences.{key_less, is_from, is_above, is_below, is_within}
+use Rattle.page_model.specs.Fences.{key_less, is_from, is_below, is_within}
 use Rattle.page_model.specs.Effects.{in_front, entry_added}
 use Rattle.page_model.specs.Tree.{Place, next_fence, first_place, entry_places, last_from, child_for, children, low_of, high_of}
 use Rattle.page_model.specs.Sound.{Ascend, child_key, IsSoundBody}
-use Rattle.page_model.proofs.KeyLemmas.{less_trans, not_both, one_key, less_up_to, up_to_less}
+use Rattle.page_model.proofs.KeyLemmas.{less_trans, not_both}
 use Rattle.tree_laws.proofs.ListLemmas.{all_map}
-use Rattle.tree_laws.proofs.FenceLemmas.{both, both_true, not_true, not_false, below_more, from_more, above_from}
+use Rattle.tree_laws.proofs.FenceLemmas.{both, both_true, not_true, below_more, from_more}
 
 -- ---- a child's keys are its parent's
 
@@ -171,3 +171,30 @@ grow_from child high place (c ∷ cs) es ends up made =
 pub grown : (child : Child) (table level : ℕ) (low high : Option (List ℕ)) (first : Page) (entries es : List Child) → Ascend child_key entries → entry_added entries child ≡ Some es
     → Grown child.key child.page (children (Inner table level low high first entries)) (children (Inner table level low high first es)) (child_for child.key low high first entries)
 grown child table level low high first entries es up made = grow_from child high (first_place low high first entries) entries es refl up made
+
+-- ---- the child to which a key leads may have it
+
+holds_by : (key : List ℕ) (high : Option (List ℕ)) (place : Place) (c : Child) (cs : List Child) (b : Bool) → key_less key c.key ≡ b → place.high ≡ Some c.key → is_from place.low key ≡ true → Ascend child_key (c ∷ cs)
+    → (let mine : Place = record { page = c.page; low = Some c.key; high = next_fence cs high } in is_from mine.low key ≡ true → (let p = last_from key mine (entry_places high cs) in is_within p.low p.high key ≡ true))
+    → (let p = last_from key place (entry_places high (c ∷ cs)) in is_within p.low p.high key ≡ true)
+holds_by key high place c cs true is ends from up rest =
+    let P : Place → Type 0 = λ p. is_within p.low p.high key ≡ true in
+    subst P (sym (stays key high place (c ∷ cs) (is, all_above key c cs is up.0))) (both_true (is_from place.low key) (is_below place.high key) from (ap (λ f. is_below f key) ends ∙ is))
+holds_by key high place c cs false is ends from up rest =
+    let mine : Place = record { page = c.page; low = Some c.key; high = next_fence cs high } in
+    let e : is_from (Some c.key) key ≡ true = ap not is in
+    let s : last_from key place (entry_places high (c ∷ cs)) ≡ last_from key mine (entry_places high cs) = ap (λ b. last_from key (cond b mine place) (entry_places high cs)) e in
+    let P : Place → Type 0 = λ p. is_within p.low p.high key ≡ true in
+    subst P (sym s) (rest e)
+
+holds_from : (key : List ℕ) (high : Option (List ℕ)) (place : Place) (entries : List Child) → place.high ≡ next_fence entries high → is_from place.low key ≡ true → is_below high key ≡ true → Ascend child_key entries
+    → (let p = last_from key place (entry_places high entries) in is_within p.low p.high key ≡ true)
+holds_from key high place [] ends from below up = both_true (is_from place.low key) (is_below place.high key) from (ap (λ f. is_below f key) ends ∙ below)
+holds_from key high place (c ∷ cs) ends from below up =
+    holds_by key high place c cs (key_less key c.key) refl ends from up (λ e. holds_from key high (record { page = c.page; low = Some c.key; high = next_fence cs high }) cs refl e below up.1)
+
+pub child_holds : (key : List ℕ) (table level : ℕ) (low high : Option (List ℕ)) (first : Page) (entries : List Child) → Ascend child_key entries → is_within low high key ≡ true
+    → (let p = child_for key low high first entries in is_within p.low p.high key ≡ true)
+child_holds key table level low high first entries up holds =
+    let w = both (is_from low key) (is_below high key) holds in
+    holds_from key high (first_place low high first entries) entries refl w.0 w.1 up

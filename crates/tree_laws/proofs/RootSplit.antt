@@ -1,20 +1,20 @@
 -- A root that splits keeps the tiling.
-use Rattle.std.proofs.Common.{◌≡◌, ◌≢◌, ℕ, ◌+◌, ◌≤◌, ◌<◌, Bool, true, false, List, [], ◌∷◌, ◌++◌, Option, Some, None, refl, sym, ap, ◌∙◌, subst, arith, inl, inr, ◌⊎◌}
+use Rattle.std.proofs.Common.{◌≡◌, ◌≢◌, ℕ, ◌+◌, ◌≤◌, true, List, [], ◌∷◌, ◌++◌, Some, None, refl, sym, ap, ◌∙◌, subst, arith, inl, inr}
 use Rattle.std.specs.List.{AllByRecursion, Contains}
 use Rattle.std.specs.Prelude.{IsSome}
 use Rattle.std.proofs.lemmas.List.Elements.{Contains-append_left, Contains-append_right, Contains-append_cases}
 use Rattle.tm_data.specs.declared.row.Row.{Row}
 use Rattle.tm_data.specs.declared.image.Image.{Image}
 use Rattle.tm_data.specs.declared.image.Body.{Body}
-use Rattle.tm_data.specs.declared.image.Body.TheVariants.{Blank, Leaf, Inner}
+use Rattle.tm_data.specs.declared.image.Body.TheVariants.{Blank}
 use Rattle.page_model.specs.Fences.{is_within}
-use Rattle.page_model.specs.Tree.{Images, Place, level_of, table_of, low_of, high_of, is_of, may_hold, children, there, one_below}
+use Rattle.page_model.specs.Tree.{Images, Place, level_of, low_of, high_of, is_of, may_hold, children, there, one_below}
 use Rattle.page_model.specs.Sound.{IsSound}
 use Rattle.page_model.specs.Splits.{Halves}
 use Rattle.page_model.specs.Tiling.{Has, Tiles, AreHalves, AreApart, HasRow, rows_of}
 use Rattle.tree_laws.proofs.ListLemmas.{all_front, all_back, all_map}
 use Rattle.tree_laws.proofs.FenceLemmas.{halves_apart}
-use Rattle.tree_laws.proofs.ThereLemmas.{IsThere, there_from, there_to, IsRoot, root_from, root_to, of_is, one_image, blank_not_of}
+use Rattle.tree_laws.proofs.ThereLemmas.{IsThere, there_from, there_to, IsRoot, root_to, of_is, one_image, blank_not_of}
 use Rattle.tree_laws.proofs.PageSplit.{made, Changed, Which, ThePage, TheFresh, TheParent, Another, which, contains_none}
 
 -- The facts of a root's split: i is the root's image, zl and zr the blank ones of the pages l and r.
@@ -55,11 +55,15 @@ module _ (images images' : Images) (table l r stamp : ℕ) (i zl zr : Image) (h 
   is_root x k has e = one_image images x table k i e has.held s.page.held
 
   -- what is below a page that isn't above the root isn't the root
-  stays : (level : ℕ) (pl : Place) → level ≤ level_of i.body → IsThere images table level pl → IsThere images' table level pl
+  pub stays : (level : ℕ) (pl : Place) → level ≤ level_of i.body → IsThere images table level pl → IsThere images' table level pl
   stays level pl le t =
       let has : Has images table pl.page.0 t.image = record { held = t.at; of = t.of } in
       let nr : pl.page.0 ≢ table = λ e. let g = ap (λ (m : Image). level_of m.body) (is_root pl.page.0 t.image has e) in let b = t.below in absurd (omega (arith, g, le, b)) in
       record { image = t.image; at = change.others pl.page.0 (not_left pl.page.0 t.image has) (not_right pl.page.0 t.image has) nr ∙ t.at; of = t.of; low = t.low; high = t.high; below = t.below }
+
+  pub stays_same : (level : ℕ) (pl : Place) (le : level ≤ level_of i.body) (t : IsThere images table level pl) → (stays level pl le t).image ≡ t.image
+  unfolding stays
+  stays_same level pl le t = refl
 
   abbrev Children : Images → ℕ → List Place → Type 0
   Children set level places = AllByRecursion (IsThere set table level) places

@@ -1,5 +1,5 @@
 -- A row that is put into its leaf keeps the tiling, and changes no other row.
-use Rattle.std.proofs.Common.{◌≡◌, ◌≢◌, ℕ, ◌+◌, ◌≤◌, ◌<◌, Bool, true, false, List, [], ◌∷◌, length, Option, Some, None, refl, sym, ap, ◌∙◌, subst, arith, inl, inr, ◌⊎◌}
+use Rattle.std.proofs.Common.{◌≡◌, ◌≢◌, ℕ, ◌+◌, ◌≤◌, true, List, Option, Some, refl, sym, ap, ◌∙◌, subst, arith, inl, inr}
 use Rattle.std.specs.List.{AllByRecursion, Contains}
 use Rattle.std.specs.Prelude.{IsSome}
 use Rattle.tm_data.specs.declared.row.Row.{Row}
@@ -9,10 +9,10 @@ use Rattle.tm_data.specs.declared.image.Body.TheVariants.{Blank, Leaf, Inner}
 use Rattle.tm_base.specs.Sizes.{size_with}
 use Rattle.page_model.specs.Fences.{is_within}
 use Rattle.page_model.specs.Effects.{row_set}
-use Rattle.page_model.specs.Tree.{Images, Place, level_of, table_of, low_of, high_of, is_of, may_hold, children, there, one_below}
-use Rattle.page_model.specs.Sound.{IsSound, IsSoundRow, Ascend, key_of}
+use Rattle.page_model.specs.Tree.{Images, Place, level_of, low_of, high_of, is_of, may_hold, children, there, one_below}
+use Rattle.page_model.specs.Sound.{IsSound, IsSoundRow, key_of}
 use Rattle.page_model.specs.Tiling.{Has, Tiles, AreApart, HasRow, rows_of}
-use Rattle.tree_laws.proofs.ListLemmas.{all_map, in_from, in_to, IsIn}
+use Rattle.tree_laws.proofs.ListLemmas.{all_map, in_from, in_to}
 use Rattle.tree_laws.proofs.SetLemmas.{all_set, ascend_set, set_is_in, set_keeps, set_adds_none, one_row, in_all}
 use Rattle.tree_laws.proofs.ThereLemmas.{IsThere, there_from, there_to, IsRoot, root_from, root_to, one_image, one_number}
 use Rattle.tree_laws.proofs.PageSplit.{made}

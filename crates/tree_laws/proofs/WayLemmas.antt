@@ -1,17 +1,17 @@
 -- Where images tile a table, every key has a path.
-use Rattle.std.proofs.Common.{◌≡◌, ℕ, zero, suc, ◌+◌, ◌≤◌, Bool, true, false, cond, List, [], ◌∷◌, ◌++◌, length, Option, Some, None, Result, Ok, Err, refl, sym, ap, ◌∙◌, subst, arith}
+use Rattle.std.proofs.Common.{◌≡◌, ℕ, zero, suc, ◌≤◌, true, false, List, [], ◌∷◌, length, Some, Ok, refl, ap, ◌∙◌, subst, arith}
 use Rattle.std.specs.List.{AllByRecursion}
 use Rattle.std.specs.Prelude.{IsSome}
 use Rattle.tm_data.specs.declared.transaction.Page.{Page}
 use Rattle.tm_data.specs.declared.image.Image.{Image}
 use Rattle.tm_data.specs.declared.image.Body.{Body}
 use Rattle.tm_data.specs.declared.image.Body.TheVariants.{Blank, Leaf, Inner}
-use Rattle.page_model.specs.Tree.{Images, Place, level_of, is_of, is_at, body_at, children, child_for, there, one_below, root, with_page, going_on, path_below, path_of}
+use Rattle.page_model.specs.Tree.{Images, Place, level_of, is_of, children, child_for, there, one_below, root, with_page, going_on, path_below, path_of}
 use Rattle.page_model.specs.Sound.{IsSound}
 use Rattle.page_model.specs.Tiling.{Has, Tiles}
 use Rattle.tree_laws.proofs.ListLemmas.{all_map, all_back}
-use Rattle.tree_laws.proofs.PlaceLemmas.{Focus, focus}
-use Rattle.tree_laws.proofs.ThereLemmas.{IsThere, there_from, there_is, IsRoot, root_from, root_is}
+use Rattle.tree_laws.proofs.PlaceLemmas.{focus}
+use Rattle.tree_laws.proofs.ThereLemmas.{IsThere, there_from, there_is, root_from, root_is}
 
 module _ (images : Images) (table : ℕ) (key : List ℕ) (tiles : Tiles images table) where
   abbrev Way : ℕ → Body → Type 0

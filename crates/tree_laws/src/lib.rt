@@ -5,7 +5,8 @@
 //! function that does nothing: a caller that calls it has the law among its facts.
 #![tactic(auto)]
 
-ghost use Rattle.std.specs.Prelude.{◌≡◌, ◌≤◌, ℕ, List, Ok, length};
+ghost use Rattle.std.specs.Prelude.{◌≡◌, ◌≤◌, ◌<◌, ℕ, List, Ok, length};
+ghost use Rattle.std.specs.List.{AllByRecursion};
 ghost use Rattle.std.specs.Ordering.{nat_cmp};
 ghost use Rattle.std.specs.Cmp.Lexicographic.{slice_cmp};
 ghost use Rattle.std.specs.FinMap.{FinMap, insert};
@@ -14,9 +15,10 @@ ghost use Rattle.tm_data.specs.declared.row.Row.{Row};
 ghost use Rattle.tm_data.specs.declared.image.Image.{Image};
 ghost use Rattle.tm_data.specs.declared.log.Record.{Record};
 ghost use Rattle.page_model.specs.Tree.{Images, path_of};
-ghost use Rattle.page_model.specs.Splits.{Halves};
+ghost use Rattle.page_model.specs.Splits.{Halves, images_on, plan_of};
+ghost use Rattle.page_model.specs.Sound.{IsSoundRow};
 ghost use Rattle.page_model.specs.Tiling.{Tiles, IsMap, Fits, FitInTurn, PutsRow, Splits, SplitsRoot, after, after_all};
-ghost use Rattle.tree_laws.specs.Claims.{SameRows, SetsRow};
+ghost use Rattle.tree_laws.specs.Claims.{SameRows, SetsRow, AreFresh};
 
 /// Tiling is local: where a set of images tiles a table and a group fits the images that it names, the
 /// images after the group tile the table.
@@ -63,4 +65,26 @@ pub fn a_put_sets_the_map()
 pub fn every_key_has_a_path()
     ensures { (images : Images) (table : ℕ) (key : List ℕ) → Tiles images table
         → (path : List Page) × (path_of images table key ≡ Ok path) × (length path ≤ 6) }
+{}
+
+/// The groups of a plan fit, each the images after the ones before it, and the images after them have
+/// the row set and every other row as before; they tile the table. The path is the one that is found for
+/// the row's key, the fresh pages are blank and all different, and the stamps are above those of the
+/// path.
+pub fn a_plan_fits_and_sets_its_row()
+    ensures { (images : Images) (table first : ℕ) (row : Row) (path fresh : List Page) (groups : List (List Record))
+        → Tiles images table → path_of images table row.key ≡ Ok path → IsSoundRow row → AreFresh images fresh
+        → AllByRecursion (λ (i : Image). i.stamp.0 < first) (images_on images path)
+        → plan_of images path row fresh first ≡ Ok groups
+        → FitInTurn images first groups table × Tiles (after_all images groups first) table
+        × SetsRow images (after_all images groups first) table row }
+{}
+
+/// After a plan a table that is a finite map is one with the row set, and nothing else changed.
+pub fn a_plan_sets_the_map()
+    ensures { (images : Images) (table first : ℕ) (row : Row) (path fresh : List Page) (groups : List (List Record)) (m : FinMap (slice_cmp nat_cmp) Row)
+        → Tiles images table → path_of images table row.key ≡ Ok path → IsSoundRow row → AreFresh images fresh
+        → AllByRecursion (λ (i : Image). i.stamp.0 < first) (images_on images path)
+        → plan_of images path row fresh first ≡ Ok groups → IsMap images table m
+        → IsMap (after_all images groups first) table (insert m row.key row) }
 {}
