@@ -17,7 +17,8 @@ use Rattle.wire_fields.specs.Reading.{Part, ◌>>=◌, u16_at, u32_at, list_at}
 use Rattle.wire_fields.proofs.Parts.{step, pass, ends}
 use Rattle.wire_fields.proofs.Lists.{list_law}
 use Rattle.wire_fields.proofs.Fields.{u8_law, u16_law, key_law}
-use Rattle.page_image.specs.Spelling.{txn_bytes, key_less}
+use Rattle.key_fences.specs.Fences.{key_less}
+use Rattle.page_image.specs.Spelling.{txn_bytes}
 use Rattle.page_image.proofs.RowLemmas.{part, joins}
 use Rattle.log_record.specs.Spelling.{group_bytes, IsGroup}
 use Rattle.log_record.proofs.GroupLemmas.{group_law, more_records}

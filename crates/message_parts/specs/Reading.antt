@@ -1,5 +1,5 @@
 -- Reading the parts of messages from left to right, with the first fault that is met.
-use Rattle.std.specs.Prelude.{ℕ, Bool, not, ◌&&◌, List, length, Option, Some, None, Result, Ok, Err, nat_lt, nat_le, nat_eq, if◌then◌else◌}
+use Rattle.std.specs.Prelude.{ℕ, Bool, not, ◌&&◌, List, length, Ok, Err, nat_lt, nat_le, nat_eq, if◌then◌else◌}
 use Rattle.tm_data.specs.declared.transaction.Writer.{Writer}
 use Rattle.tm_data.specs.declared.transaction.Page.{Page}
 use Rattle.tm_data.specs.declared.transaction.Stamp.{Stamp}
@@ -11,12 +11,10 @@ use Rattle.tm_base.specs.declared.message.RosterEntry.{RosterEntry}
 use Rattle.tm_base.specs.declared.message.Tag.{Tag}
 use Rattle.tm_base.specs.declared.message.WriterState.{WriterState}
 use Rattle.tm_base.specs.declared.message.WriterState.TheVariants as told
-use Rattle.wire_fields.specs.declared.error.ReadError.{ReadError}
 use Rattle.wire_fields.specs.declared.error.ReadError.TheVariants.{NotCanonical}
-use Rattle.wire_fields.specs.Reading.{Part, ◌>>=◌, offset_of, u8_at, u16_at, u32_at, u64_at, kind_at, key_at, list_at, end_at}
-use Rattle.page_image.specs.Spelling.{key_less}
-use Rattle.page_image.specs.Reading.{txn_at, image_at}
-use Rattle.log_record.specs.Reading.{learnt_at, group_at}
+use Rattle.wire_fields.specs.Reading.{Part, ◌>>=◌, offset_of, u8_at, u16_at, u32_at, u64_at, kind_at, key_at, list_at}
+use Rattle.key_fences.specs.Fences.{key_less}
+use Rattle.log_record.specs.Reading.{group_at}
 use Rattle.message_parts.specs.Spelling.{after_any, above_page, no_tag, last_tag, writer_of}
 
 -- ---- numbers

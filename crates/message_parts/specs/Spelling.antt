@@ -1,5 +1,5 @@
 -- The parts of messages as bytes: the one spelling of each, and which have one.
-use Rattle.std.specs.Prelude.{◌≡◌, ◌<◌, ◌≤◌, ◌+◌, ℕ, Bool, true, not, ◌&&◌, ◌||◌, nat_eq, nat_lt, List, [], ◌++◌, length, Option, Some, None}
+use Rattle.std.specs.Prelude.{◌≡◌, ◌<◌, ◌≤◌, ◌+◌, ℕ, Bool, true, not, ◌&&◌, ◌||◌, nat_eq, nat_lt, List, [], ◌++◌, length}
 use Rattle.std.specs.List.{flat_map}
 use Rattle.tm_data.specs.declared.transaction.Writer.{Writer}
 use Rattle.tm_data.specs.declared.transaction.Stamp.{Stamp}
@@ -13,8 +13,9 @@ use Rattle.tm_base.specs.declared.message.Tag.{Tag}
 use Rattle.tm_base.specs.declared.message.WriterState.{WriterState}
 use Rattle.tm_base.specs.declared.message.WriterState.TheVariants as told
 use Rattle.wire_fields.specs.Spelling.{u8_bytes, u16_bytes, u32_bytes, u64_bytes, key_bytes, IsWithin, IsKey, AreInTurn}
-use Rattle.page_image.specs.Spelling.{txn_bytes, IsTxn, key_less, image_bytes, IsImage}
-use Rattle.log_record.specs.Spelling.{flag_of, learnt_bytes, IsLearnt, group_bytes, IsGroup}
+use Rattle.key_fences.specs.Fences.{key_less}
+use Rattle.page_image.specs.Spelling.{txn_bytes, IsTxn}
+use Rattle.log_record.specs.Spelling.{group_bytes, IsGroup}
 
 -- ---- nodes
 

@@ -1,21 +1,15 @@
 //! Tags as bytes.
 ghost use Rattle.std.specs.Prelude.{◌≡◌, ◌≤◌, ◌++◌, length, IfOk, OnOk};
 ghost use Rattle.wire_fields.specs.Reading.{Gives};
-ghost use Rattle.page_image.specs.Spelling.{key_less};
 ghost use Rattle.message_parts.specs.Spelling.{no_tag, tag_bytes, tags_bytes};
 ghost use Rattle.message_parts.specs.Reading.{tag_after, tag_at, tag_list_at, tags_at};
 
 use crate::number::read_writer;
+use key_fences::is_less;
 use page_image::{own_key, put_txn};
 use std::alloc::{AllocError, Global};
 use tm_base::{ItemList, Tag, TagList, Txn, Writer};
 use wire_fields::{ReadError, offset, put_key, put_u32, read_key, read_u32};
-
-fn is_less(a: &[u8], b: &[u8]) -> bool
-    ensures { result ≡ key_less a.now b.now }
-{
-    a.cmp(b).is_lt()
-}
 
 /// Reads what stands behind the key that begins at `start`.
 #[tactic(auto, unfolding(crate::specs::Reading::tag_after))]

@@ -1,16 +1,15 @@
 -- Reading messages from left to right, with the first fault that is met.
-use Rattle.std.specs.Prelude.{ℕ, Bool, not, ◌&&◌, List, length, Option, Some, None, Result, Ok, Err, nat_lt, nat_le, nat_eq, if◌then◌else◌}
+use Rattle.std.specs.Prelude.{ℕ, List, length, Option, Some, None, Result, Ok, nat_le, nat_eq, if◌then◌else◌}
 use Rattle.tm_data.specs.declared.transaction.Writer.{Writer}
 use Rattle.tm_data.specs.declared.transaction.Page.{Page}
 use Rattle.tm_data.specs.declared.transaction.Stamp.{Stamp}
 use Rattle.tm_data.specs.declared.vector.VectorEntry.{VectorEntry}
-use Rattle.tm_data.specs.declared.log.Group.{Group}
 use Rattle.tm_base.specs.declared.message.Message.{Message}
 use Rattle.tm_base.specs.declared.message.Note.{Note}
 use Rattle.tm_base.specs.declared.message.Note.TheVariants.{Register, Registered, Append, Ack, Gap, Sealed, Stable, Fetch, Groups, Seal, SealedAt, Close, Closed, Takeover, Taken, Undone, Recovered, Request, RequestFresh, Recall, Grant, FreshIs, Release, Released, ReadPage, PageIs, Missing, Ask, Fate, Roster, Want}
 use Rattle.tm_base.specs.declared.message.Tag.{Tag}
 use Rattle.wire_fields.specs.declared.error.ReadError.{ReadError}
-use Rattle.wire_fields.specs.Reading.{Part, ◌>>=◌, offset_of, u8_at, u16_at, u32_at, u64_at, kind_at, key_at, list_at, end_at}
+use Rattle.wire_fields.specs.Reading.{Part, ◌>>=◌, u8_at, u32_at, kind_at, end_at}
 use Rattle.page_image.specs.Reading.{txn_at, image_at}
 use Rattle.log_record.specs.Reading.{learnt_at, group_at}
 use Rattle.node_messages.specs.declared.shape.Lease.{Lease}

@@ -1,20 +1,15 @@
 -- Messages between nodes as bytes: the one spelling of each, and which have one.
-use Rattle.std.specs.Prelude.{◌≡◌, ◌<◌, ◌≤◌, ◌+◌, ℕ, Bool, true, not, ◌&&◌, ◌||◌, nat_eq, nat_lt, List, [], ◌++◌, length, Option, Some, None}
-use Rattle.std.specs.List.{flat_map}
+use Rattle.std.specs.Prelude.{ℕ, List, ◌++◌, length, Option, Some, None}
 use Rattle.tm_data.specs.declared.transaction.Writer.{Writer}
 use Rattle.tm_data.specs.declared.transaction.Page.{Page}
 use Rattle.tm_data.specs.declared.transaction.Stamp.{Stamp}
-use Rattle.tm_data.specs.declared.transaction.Txn.{Txn}
 use Rattle.tm_data.specs.declared.vector.VectorEntry.{VectorEntry}
-use Rattle.tm_data.specs.declared.log.Group.{Group}
 use Rattle.tm_base.specs.declared.message.Message.{Message}
 use Rattle.tm_base.specs.declared.message.Note.{Note}
 use Rattle.tm_base.specs.declared.message.Note.TheVariants.{Register, Registered, Append, Ack, Gap, Sealed, Stable, Fetch, Groups, Seal, SealedAt, Close, Closed, Takeover, Taken, Undone, Recovered, Request, RequestFresh, Recall, Grant, FreshIs, Release, Released, ReadPage, PageIs, Missing, Ask, Fate, Roster, Want}
-use Rattle.tm_base.specs.declared.message.PageStamp.{PageStamp}
-use Rattle.tm_base.specs.declared.message.RosterEntry.{RosterEntry}
 use Rattle.tm_base.specs.declared.message.Tag.{Tag}
-use Rattle.wire_fields.specs.Spelling.{u8_bytes, u16_bytes, u32_bytes, u64_bytes, key_bytes, IsWithin, IsKey, AreInTurn}
-use Rattle.page_image.specs.Spelling.{txn_bytes, IsTxn, key_less, image_bytes, IsImage}
+use Rattle.wire_fields.specs.Spelling.{u8_bytes, u32_bytes, u64_bytes, IsWithin}
+use Rattle.page_image.specs.Spelling.{txn_bytes, IsTxn, image_bytes, IsImage}
 use Rattle.log_record.specs.Spelling.{flag_of, learnt_bytes, IsLearnt, group_bytes, IsGroup}
 use Rattle.message_parts.specs.Spelling.{node_bytes, IsNode, IsWriter, IsNumber, IsSmall, IsStamp, groups_bytes, AreGroups, page_stamps_bytes, ArePageStamps, tags_bytes, AreTags, roster_bytes, AreEntries}
 

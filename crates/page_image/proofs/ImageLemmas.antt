@@ -22,7 +22,8 @@ use Rattle.wire_fields.specs.Reading.{◌>>=◌, Gives, u64_at, end_at}
 use Rattle.wire_fields.proofs.Parts.{step, pass, ends}
 use Rattle.wire_fields.proofs.Lists.{AreItems, list_law}
 use Rattle.wire_fields.proofs.Fields.{u8_law, u16_law, u32_law, u64_law, kind_law, fence_law, end_is, end_again}
-use Rattle.page_image.specs.Spelling.{txn_bytes, earlier, row_bytes, rows_bytes, AreRows, IsRowIn, key_of_row, child_bytes, children_bytes, AreChildren, IsChildIn, key_of_child, Head, head_bytes, IsHead, leaves_room, kind_of, body_bytes, IsBody, image_bytes, last_stamp, IsImage}
+use Rattle.key_fences.specs.Fences.{leave_room}
+use Rattle.page_image.specs.Spelling.{txn_bytes, earlier, row_bytes, rows_bytes, AreRows, IsRowIn, key_of_row, child_bytes, children_bytes, AreChildren, IsChildIn, key_of_child, Head, head_bytes, IsHead, kind_of, body_bytes, IsBody, image_bytes, last_stamp, IsImage}
 use Rattle.page_image.specs.Reading.{row_at, rows_at, child_at, children_at, head_at, leaf_at, inner_at, body_at, image_at, image_of}
 use Rattle.page_image.proofs.RowLemmas.{part, joins, passes, row_law, child_law}
 
@@ -38,7 +39,7 @@ head_takes total least most bytes x fits e =
     let order = pass _ high.next in
     ends order.next (record {
       parts = (joins (part table) (joins (part level) (joins (part low) (part high)))).whole;
-      fits = record { table = table.fits; level = level.fits; low = low.fits; high = high.fits; order = passes (leaves_room low.value high.value) order.test };
+      fits = record { table = table.fits; level = level.fits; low = low.fits; high = high.fits; order = passes (leave_room low.value high.value) order.test };
       left = high.left;
     })
 

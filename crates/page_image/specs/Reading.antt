@@ -11,7 +11,8 @@ use Rattle.tm_data.specs.declared.image.Body.TheVariants.{Blank, Leaf, Inner}
 use Rattle.wire_fields.specs.declared.error.ReadError.{ReadError}
 use Rattle.wire_fields.specs.declared.error.ReadError.TheVariants.{NotCanonical}
 use Rattle.wire_fields.specs.Reading.{Part, ◌>>=◌, offset_of, u8_at, u16_at, u32_at, u64_at, kind_at, key_at, fence_at, value_at, before_at, list_at, end_at}
-use Rattle.page_image.specs.Spelling.{Head, stands, leaves_room, key_of_row, key_of_child, last_stamp}
+use Rattle.key_fences.specs.Fences.{leave_room}
+use Rattle.page_image.specs.Spelling.{Head, stands, key_of_row, key_of_child, last_stamp}
 
 unfoldable pub txn_at : ℕ → List ℕ → Part Txn
 txn_at total bytes = do
@@ -61,7 +62,7 @@ head_at total least most bytes = do
   level ← u8_at total least most table.1
   low ← fence_at total level.1
   high ← fence_at total low.1
-  if not (leaves_room low.0 high.0) then Err (NotCanonical (offset_of total low.1)) else Ok (record { table = table.0; level = level.0; low = low.0; high = high.0 }, high.1)
+  if not (leave_room low.0 high.0) then Err (NotCanonical (offset_of total low.1)) else Ok (record { table = table.0; level = level.0; low = low.0; high = high.0 }, high.1)
 
 unfoldable pub leaf_at : ℕ → List ℕ → Part Body
 leaf_at total bytes = do

@@ -1,8 +1,7 @@
 -- Rows and images of pages as bytes: the one spelling of each, and which have one.
-use Rattle.std.specs.Prelude.{◌≡◌, ◌≤◌, ℕ, Bool, true, not, ◌&&◌, nat_eq, if◌then◌else◌, List, [], ◌++◌, length, Option, Some, None}
+use Rattle.std.specs.Prelude.{◌≡◌, ◌≤◌, ℕ, Bool, true, ◌&&◌, nat_eq, if◌then◌else◌, List, [], ◌++◌, length, Option, Some, None}
 use Rattle.std.specs.List.{flat_map}
-use Rattle.std.specs.Ordering.{nat_cmp, is_lt}
-use Rattle.std.specs.Cmp.Lexicographic.{slice_cmp}
+use Rattle.key_fences.specs.Fences.{is_above, is_within, leave_room}
 use Rattle.tm_data.specs.declared.transaction.Txn.{Txn}
 use Rattle.tm_data.specs.declared.row.Row.{Row}
 use Rattle.tm_data.specs.declared.row.Before.{Before}
@@ -40,26 +39,9 @@ pub record IsRow (r : Row) : Type 0 where
 
 -- ---- keys in order
 
--- Keys are ordered byte by byte.
-abbrev pub key_less : List ℕ → List ℕ → Bool
-key_less a b = is_lt (slice_cmp nat_cmp a b)
-
--- whether a key is not below the low fence, is below the high one, or above the last key
-abbrev pub is_from : Option (List ℕ) → List ℕ → Bool
-is_from None key = true
-is_from (Some low) key = not (key_less key low)
-
-abbrev pub is_below : Option (List ℕ) → List ℕ → Bool
-is_below None key = true
-is_below (Some high) key = key_less key high
-
-abbrev pub is_above : Option (List ℕ) → List ℕ → Bool
-is_above None key = true
-is_above (Some last) key = key_less last key
-
--- whether a key may stand within the fences and after the last key
+-- A key may stand within the fences, and after the last key.
 abbrev pub stands : Option (List ℕ) → Option (List ℕ) → Option (List ℕ) → List ℕ → Bool
-stands low high last key = is_from low key && is_below high key && is_above last key
+stands low high last key = is_within low high key && is_above last key
 
 pub record IsPlaced (low high last : Option (List ℕ)) (key : List ℕ) : Type 0 where
   pub is_key : IsKey key
@@ -87,12 +69,6 @@ key_of_child c = Some c.key
 
 -- ---- bodies
 
--- Whether some key can be within the fences: the low one is below the high one, or one is open.
-abbrev pub leaves_room : Option (List ℕ) → Option (List ℕ) → Bool
-leaves_room low None = true
-leaves_room None (Some high) = true
-leaves_room (Some low) (Some high) = key_less low high
-
 -- What leaves and inner pages begin with.
 pub record Head : Type 0 where
   pub table : ℕ
@@ -108,7 +84,7 @@ pub record IsHead (least most : ℕ) (h : Head) : Type 0 where
   pub level : IsWithin least most h.level
   pub low : IsFence h.low
   pub high : IsFence h.high
-  pub order : leaves_room h.low h.high ≡ true
+  pub order : leave_room h.low h.high ≡ true
 
 abbrev pub kind_of : Body → ℕ
 kind_of Blank = 0

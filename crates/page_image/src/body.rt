@@ -5,8 +5,9 @@ ghost use Rattle.wire_fields.specs.Reading.{Gives};
 ghost use Rattle.page_image.specs.Spelling.{child_bytes, children_bytes, head_bytes, body_bytes, kind_of, IsBody};
 ghost use Rattle.page_image.specs.Reading.{child_at, children_at, head_at, leaf_at, inner_at, body_at};
 
-use crate::place::{fence_bytes, leaves_room, own_key, read_placed};
+use crate::place::{own_key, read_placed};
 use crate::rows::{put_rows, read_rows};
+use key_fences::{fence_bytes, leave_room};
 use std::alloc::{AllocError, Global};
 use tm_base::{Body, Child, ItemList, Key, Page};
 use wire_fields::{
@@ -36,7 +37,7 @@ fn read_head(
     let (level, rest) = read_u8(total, least, most, rest)?;
     let (low, fence) = read_fence(total, rest)?;
     let (high, rest) = read_fence(total, fence)?;
-    if !leaves_room(low, high) {
+    if !leave_room(low, high) {
         return Err(ReadError::NotCanonical {
             at: offset(total, fence),
         });

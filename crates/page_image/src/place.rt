@@ -2,10 +2,10 @@
 ghost use Rattle.std.specs.Prelude.{◌≡◌};
 ghost use Rattle.std.specs.Option.{option_copied};
 ghost use Rattle.wire_fields.specs.Reading.{Gives};
-ghost use Rattle.wire_fields.specs.Spelling.{IsFence};
-ghost use Rattle.page_image.specs.Spelling.{key_less, is_from, is_below, is_above, stands, leaves_room};
+ghost use Rattle.page_image.specs.Spelling.{stands};
 ghost use Rattle.page_image.specs.Reading.{txn_at, placed_at};
 
+use key_fences::{is_above, is_within};
 use std::alloc::Global;
 use tm_base::{Key, Txn, Writer};
 use wire_fields::{ReadError, offset, read_key, read_u32};
@@ -34,60 +34,6 @@ pub fn own_key(alloc: Global, bytes: &[u8]) -> Result<Key, ReadError>
     }
 }
 
-/// The bytes of a fence.
-pub(crate) fn fence_bytes(fence: &Option<Key>) -> Option<&[u8]>
-    ensures same { option_copied result ≡ fence.now }
-    ensures sound { IsFence (option_copied result) }
-{
-    match fence {
-        Some(key) => Some(key.as_slice()),
-        None => None,
-    }
-}
-
-fn is_less(a: &[u8], b: &[u8]) -> bool
-    ensures { result ≡ key_less a.now b.now }
-{
-    a.cmp(b).is_lt()
-}
-
-fn is_from(low: Option<&[u8]>, key: &[u8]) -> bool
-    ensures { result ≡ is_from (option_copied low.entry) key.now }
-{
-    match low {
-        Some(low) => !is_less(key, low),
-        None => true,
-    }
-}
-
-fn is_below(high: Option<&[u8]>, key: &[u8]) -> bool
-    ensures { result ≡ is_below (option_copied high.entry) key.now }
-{
-    match high {
-        Some(high) => is_less(key, high),
-        None => true,
-    }
-}
-
-fn is_above(last: Option<&[u8]>, key: &[u8]) -> bool
-    ensures { result ≡ is_above (option_copied last.entry) key.now }
-{
-    match last {
-        Some(last) => is_less(last, key),
-        None => true,
-    }
-}
-
-/// Whether the low fence is below the high one, or one of them open.
-pub(crate) fn leaves_room(low: Option<&[u8]>, high: Option<&[u8]>) -> bool
-    ensures { result ≡ leaves_room (option_copied low.entry) (option_copied high.entry) }
-{
-    match (low, high) {
-        (Some(low), Some(high)) => is_less(low, high),
-        _ => true,
-    }
-}
-
 /// Reads a key that is within the fences and above the last one, else `NotCanonical`.
 #[tactic(auto, unfolding(crate::specs::Reading::placed_at))]
 pub(crate) fn read_placed<'a>(
@@ -100,7 +46,7 @@ pub(crate) fn read_placed<'a>(
     ensures { Gives (λ x. (x.0.now, x.1.now)) result (placed_at total (option_copied low.entry) (option_copied high.entry) (option_copied last.entry) bytes.now) }
 {
     let (key, rest) = read_key(total, bytes)?;
-    let stands = is_from(low, key) && is_below(high, key) && is_above(last, key);
+    let stands = is_within(low, high, key) && is_above(last, key);
     if !stands {
         return Err(ReadError::NotCanonical {
             at: offset(total, bytes),

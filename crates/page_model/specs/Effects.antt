@@ -11,7 +11,7 @@ use Rattle.tm_data.specs.declared.image.Image.{Image}
 use Rattle.tm_data.specs.declared.log.Record.{Record}
 use Rattle.tm_data.specs.declared.log.Record.TheVariants.{RowSet, Cut, Format, NodeAdd, End, Beat}
 use Rattle.tm_base.specs.Sizes.{size_with}
-use Rattle.page_model.specs.Fences.{key_less, is_within, is_strictly_within}
+use Rattle.key_fences.specs.Fences.{key_less, is_within, is_strictly_within}
 
 -- ---- the first version of a page
 

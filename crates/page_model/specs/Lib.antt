@@ -1,4 +1,3 @@
-pub mod Fences
 pub mod Effects
 pub mod Versions
 pub mod Tree

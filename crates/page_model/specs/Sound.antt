@@ -1,5 +1,5 @@
 -- What every stored image has, whatever page it is of.
-use Rattle.std.specs.Prelude.{◌≡◌, ℕ, ◌≤◌, Bool, true, List, [], ◌∷◌, length, Option, Some, None}
+use Rattle.std.specs.Prelude.{◌≡◌, ℕ, ◌≤◌, true, List, [], ◌∷◌, length, Option, Some}
 use Rattle.std.specs.List.{AllByRecursion}
 use Rattle.tm_data.specs.declared.row.Row.{Row}
 use Rattle.tm_data.specs.declared.image.Child.{Child}
@@ -7,7 +7,7 @@ use Rattle.tm_data.specs.declared.image.Body.{Body}
 use Rattle.tm_data.specs.declared.image.Body.TheVariants.{Blank, Leaf, Inner}
 use Rattle.tm_data.specs.declared.image.Image.{Image}
 use Rattle.tm_base.specs.Sizes.{row_size, fence_size, size_with}
-use Rattle.page_model.specs.Fences.{key_less, is_within}
+use Rattle.key_fences.specs.Fences.{key_less, is_within, leave_room}
 use Rattle.page_model.specs.Tree.{Images}
 
 -- Each key is below all that come after it.
@@ -20,12 +20,6 @@ key_of r = r.key
 
 abbrev pub child_key : Child → List ℕ
 child_key c = c.key
-
--- Some key may stand between the fences.
-abbrev pub leave_room : Option (List ℕ) → Option (List ℕ) → Bool
-leave_room low None = true
-leave_room None (Some high) = true
-leave_room (Some low) (Some high) = key_less low high
 
 -- The fences are in order, and no longer than keys are.
 pub record AreFences (low high : Option (List ℕ)) : Type 0 where

@@ -1,5 +1,5 @@
 -- A set of images tiles a table; and when a group of records fits the images that it names.
-use Rattle.std.specs.Prelude.{◌≡◌, ◌≢◌, ◌⊎◌, ℕ, ◌+◌, ◌≤◌, ◌<◌, Bool, true, false, cond, nat_eq, List, [], ◌∷◌, ◌++◌, Option, Some, None, IsSome, Contains, is_some}
+use Rattle.std.specs.Prelude.{◌≡◌, ◌≢◌, ◌⊎◌, ℕ, ◌+◌, ◌≤◌, ◌<◌, true, cond, nat_eq, List, [], ◌∷◌, ◌++◌, Option, Some, None, IsSome, Contains}
 use Rattle.std.specs.List.{AllByRecursion}
 use Rattle.std.specs.Ordering.{nat_cmp}
 use Rattle.std.specs.Cmp.Lexicographic.{slice_cmp}
@@ -12,10 +12,10 @@ use Rattle.tm_data.specs.declared.image.Body.TheVariants.{Blank, Leaf, Inner}
 use Rattle.tm_data.specs.declared.image.Image.{Image}
 use Rattle.tm_data.specs.declared.log.Record.{Record}
 use Rattle.tm_base.specs.Sizes.{size_with}
-use Rattle.page_model.specs.Fences.{key_less, is_within, is_strictly_within}
+use Rattle.key_fences.specs.Fences.{is_within, is_strictly_within}
 use Rattle.page_model.specs.Effects.{row_set, cut_at, child_added, redone_at}
-use Rattle.page_model.specs.Tree.{Images, Place, level_of, table_of, low_of, high_of, is_of, may_hold, children, child_for, there, one_below, root}
-use Rattle.page_model.specs.Splits.{Halves, changed_page, spot_of, row_group, split_group, root_group, root_over}
+use Rattle.page_model.specs.Tree.{Images, level_of, table_of, low_of, high_of, is_of, may_hold, children, child_for, there, one_below, root}
+use Rattle.page_model.specs.Splits.{Halves, changed_page, spot_of, row_group, split_group, root_group}
 use Rattle.page_model.specs.Sound.{IsSound, IsSoundRow}
 
 -- ---- tiling

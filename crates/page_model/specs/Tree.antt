@@ -1,13 +1,11 @@
 -- A table's tree of pages: where a key leads in it, and which pages of that way are there.
-use Rattle.std.specs.Prelude.{ℕ, zero, suc, ◌+◌, Bool, true, false, cond, ◌&&◌, nat_eq, List, [], ◌∷◌, Option, Some, None, Result, Ok, Err}
-use Rattle.std.specs.Cmp.Lexicographic.{pointwise}
+use Rattle.std.specs.Prelude.{ℕ, zero, suc, ◌+◌, Bool, false, cond, ◌&&◌, nat_eq, List, [], ◌∷◌, Option, Some, None, Result, Ok, Err}
 use Rattle.tm_data.specs.declared.transaction.Page.{Page}
-use Rattle.tm_data.specs.declared.row.Row.{Row}
 use Rattle.tm_data.specs.declared.image.Child.{Child}
 use Rattle.tm_data.specs.declared.image.Body.{Body}
 use Rattle.tm_data.specs.declared.image.Body.TheVariants.{Blank, Leaf, Inner}
 use Rattle.tm_data.specs.declared.image.Image.{Image}
-use Rattle.page_model.specs.Fences.{is_from, is_within}
+use Rattle.key_fences.specs.Fences.{is_from, is_within, same_fence}
 
 -- A set of images: at most one for each page.
 abbrev pub Images : Type 0
@@ -84,11 +82,6 @@ children (Inner table level low high first entries) = first_place low high first
 children body = []
 
 -- ---- what is there
-
-abbrev pub same_fence : Option (List ℕ) → Option (List ℕ) → Bool
-same_fence None None = true
-same_fence (Some a) (Some b) = pointwise nat_eq a b
-same_fence a b = false
 
 -- The page at a place is of the table and has the fences that the place gives it.
 abbrev pub is_at : ℕ → Place → Body → Bool

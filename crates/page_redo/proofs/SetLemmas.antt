@@ -9,7 +9,7 @@ use Rattle.tm_data.specs.declared.image.Child.{Child}
 use Rattle.tm_data.specs.declared.image.Body.{Body}
 use Rattle.tm_data.specs.declared.image.Body.TheVariants.{Blank, Leaf, Inner}
 use Rattle.tm_base.specs.Sizes.{MOST, row_size, child_size, size_with}
-use Rattle.page_model.specs.Fences.{key_less, is_within, is_strictly_within}
+use Rattle.key_fences.specs.Fences.{key_less, is_within, is_strictly_within}
 use Rattle.page_model.specs.Effects.{row_set, entry_added, in_front, fitting, suiting, with_entries, row_set_in, cut_at, child_added}
 use Rattle.page_redo.specs.declared.place.Place.{Place}
 use Rattle.page_redo.specs.declared.place.Place.TheVariants.{At, Before}

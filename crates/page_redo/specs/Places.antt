@@ -5,7 +5,7 @@ use Rattle.tm_data.specs.declared.image.Child.{Child}
 use Rattle.tm_data.specs.declared.image.Body.{Body}
 use Rattle.tm_data.specs.declared.image.Body.TheVariants.{Blank, Leaf, Inner}
 use Rattle.tm_base.specs.Sizes.{row_size}
-use Rattle.page_model.specs.Fences.{key_less}
+use Rattle.key_fences.specs.Fences.{key_less}
 use Rattle.page_model.specs.Effects.{row_set, rows_below, entries_below}
 use Rattle.page_redo.specs.declared.place.Place.{Place}
 use Rattle.page_redo.specs.declared.place.Place.TheVariants.{At, Before}

@@ -24,8 +24,9 @@ if_next image change stamp false = Err (WrongPrev image.stamp (record { 0 = prev
 abbrev pub redo_of : Image → Record → ℕ → Result Image RedoError
 redo_of image change stamp = if_next image change stamp (nat_eq (prev_of change) image.stamp.0)
 
--- A call answers so: the image becomes the one given, or stays as it was, for the reason given or for want of memory.
-abbrev pub Answers : {U : Type 0} → Result U RedoError → Image → Image → Result Image RedoError → Type 0
+-- A call answers so: what it changes becomes the one given, or stays as it was, for the reason given or for want of
+-- memory.
+abbrev pub Answers : {U X : Type 0} → Result U RedoError → X → X → Result X RedoError → Type 0
 Answers (Ok done) old new given = given ≡ Ok new
 Answers (Err NoMemory) old new given = (new ≡ old) × IsOk given
 Answers (Err Unfit) old new given = (new ≡ old) × (given ≡ Err Unfit)

@@ -3,8 +3,8 @@ ghost use Rattle.std.specs.Prelude.{◌≡◌, OnOk, OnErr, IsSome, Some};
 ghost use Rattle.page_model.specs.Effects.{redone, row_set, rows_below, entries_below};
 ghost use Rattle.page_redo.specs.Places.{row_put, child_put, child_set, cut_below};
 
-use crate::keys::is_less;
 use crate::place::{Place, child_place, row_place};
+use key_fences::is_less;
 use std::mem;
 use tm_base::{Body, Child, ItemList, Key, Mem, Record, Row, TryCopy};
 
@@ -168,11 +168,11 @@ fn cut(body: &mut Body, at: Key)
 fn keep_rows(rows: &mut Vec<Row>, at: &Key)
     ensures { rows.new.items ≡ rows_below at.now rows.old.items }
 {
-    rows.retain(|item| is_less(&item.key, at));
+    rows.retain(|item| is_less(item.key.as_slice(), at.as_slice()));
 }
 
 fn keep_entries(entries: &mut Vec<Child>, at: &Key)
     ensures { entries.new.items ≡ entries_below at.now entries.old.items }
 {
-    entries.retain(|item| is_less(&item.key, at));
+    entries.retain(|item| is_less(item.key.as_slice(), at.as_slice()));
 }

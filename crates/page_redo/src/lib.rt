@@ -8,7 +8,6 @@
 mod edits;
 mod error;
 mod first;
-mod keys;
 mod place;
 mod redo;
 mod suits;

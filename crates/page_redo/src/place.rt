@@ -2,7 +2,7 @@
 ghost use Rattle.std.specs.Prelude.{◌≡◌, length};
 ghost use Rattle.page_redo.specs.Places.{row_place, child_place, IsPlaceIn};
 
-use crate::keys::is_less;
+use key_fences::is_less;
 use tm_base::{Child, Key, Row};
 
 /// The place of a key in a list that ascends by key. Places are counted from 0.
@@ -20,8 +20,8 @@ pub(crate) fn row_place(rows: &[Row], key: &Key) -> Place
     ensures within { IsPlaceIn result (length rows.now) }
 {
     for (at, item) in rows.iter().enumerate() {
-        if !is_less(&item.key, key) {
-            return if is_less(key, &item.key) {
+        if !is_less(item.key.as_slice(), key.as_slice()) {
+            return if is_less(key.as_slice(), item.key.as_slice()) {
                 Place::Before(at)
             } else {
                 Place::At(at)
@@ -37,8 +37,8 @@ pub(crate) fn child_place(entries: &[Child], key: &Key) -> Place
     ensures within { IsPlaceIn result (length entries.now) }
 {
     for (at, item) in entries.iter().enumerate() {
-        if !is_less(&item.key, key) {
-            return if is_less(key, &item.key) {
+        if !is_less(item.key.as_slice(), key.as_slice()) {
+            return if is_less(key.as_slice(), item.key.as_slice()) {
                 Place::Before(at)
             } else {
                 Place::At(at)

@@ -1,11 +1,12 @@
 //! Which records suit which pages.
 ghost use Rattle.std.specs.Prelude.{◌≡◌, ◌+◌, min, length, sum_by, is_some, ◌≤◌};
 ghost use Rattle.tm_base.specs.Sizes.{MOST, row_size, child_size, fence_size};
+ghost use Rattle.key_fences.specs.Fences.{is_within};
 ghost use Rattle.page_model.specs.Effects.{rows_below, entries_below, row_set_in, cut_at, formatted, child_added, redone};
 ghost use Rattle.page_redo.specs.Places.{child_place, is_before, size_there, row_fits};
 
-use crate::keys::{is_less, is_strictly_within, is_within};
 use crate::place::{Place, child_place, row_place};
+use key_fences::{fence_bytes, is_less, is_strictly_within, is_within};
 use tm_base::{Body, Child, Image, Key, Page, Record, Row, row_size, size};
 
 /// An image has at most 8,192 bytes.
@@ -38,13 +39,20 @@ fn row_suits(image: &Image, table: u16, new: &Row) -> bool
             if *own != table {
                 return false;
             }
-            if !is_within(low, high, &new.key) {
+            if !may_stand(low, high, &new.key) {
                 return false;
             }
             row_fits(size(image), rows.as_slice(), new)
         }
         _ => false,
     }
+}
+
+/// Whether a key may stand between the fences.
+fn may_stand(low: &Option<Key>, high: &Option<Key>, key: &Key) -> bool
+    ensures { result ≡ is_within low.now high.now key.now }
+{
+    is_within(fence_bytes(low), fence_bytes(high), key.as_slice())
 }
 
 /// Whether a page of this size may have this row set among these.
@@ -77,7 +85,7 @@ fn cut_suits(body: &Body, at: &Key) -> bool
             rows,
             ..
         } => {
-            is_strictly_within(low, high, at)
+            is_strictly_within(fence_bytes(low), fence_bytes(high), at.as_slice())
                 && rows_size_below(rows.as_slice(), at).saturating_add(
                     18 + fence_size(low) + 1 + at.as_slice().len(),
                 ) <= MAX_IMAGE
@@ -88,7 +96,7 @@ fn cut_suits(body: &Body, at: &Key) -> bool
             entries,
             ..
         } => {
-            is_strictly_within(low, high, at)
+            is_strictly_within(fence_bytes(low), fence_bytes(high), at.as_slice())
                 && entries_size_below(entries.as_slice(), at).saturating_add(
                     22 + fence_size(low) + 1 + at.as_slice().len(),
                 ) <= MAX_IMAGE
@@ -111,7 +119,7 @@ fn rows_size_below(rows: &[Row], at: &Key) -> usize
 {
     let mut total: usize = 0;
     for item in rows {
-        if is_less(&item.key, at) {
+        if is_less(item.key.as_slice(), at.as_slice()) {
             total = total.saturating_add(row_size(item));
         }
     }
@@ -130,7 +138,7 @@ fn entries_size_below(entries: &[Child], at: &Key) -> usize
 {
     let mut total: usize = 0;
     for item in entries {
-        if is_less(&item.key, at) {
+        if is_less(item.key.as_slice(), at.as_slice()) {
             total = total.saturating_add(child_size(item));
         }
     }
@@ -147,7 +155,7 @@ fn child_suits(image: &Image, key: &Key, child: Page) -> bool
             entries,
             ..
         } => {
-            if !is_within(low, high, key) {
+            if !may_stand(low, high, key) {
                 return false;
             }
             if !is_new(entries.as_slice(), key) {

@@ -5,12 +5,12 @@ use Rattle.tm_data.specs.declared.transaction.Page.{Page}
 use Rattle.tm_data.specs.declared.image.Child.{Child}
 use Rattle.tm_data.specs.declared.image.Image.{Image}
 use Rattle.tm_data.specs.declared.image.Body.{Body}
-use Rattle.tm_data.specs.declared.image.Body.TheVariants.{Blank, Leaf, Inner}
+use Rattle.tm_data.specs.declared.image.Body.TheVariants.{Inner}
 use Rattle.page_model.specs.Tree.{Images, Place, level_of, is_at, body_at, there, one_below, child_for, with_page, going_on, path_below}
 use Rattle.page_model.specs.Sound.{Ascend, child_key, AreSound, IsSound}
 use Rattle.row_tree.specs.declared.path.FindError.{FindError}
 use Rattle.row_tree.specs.declared.path.FindError.TheVariants.{Need, NoMemory}
-use Rattle.row_tree.specs.Inside.{Refuses, GivesPath, GoesOn}
+use Rattle.row_tree.specs.Inside.{GoesOn}
 
 chosen : {A : Type 0} (b : Bool) (x y : A) → cond b (Some x) None ≡ Some y → (b ≡ true) × (x ≡ y)
 chosen true x y h = (refl, cc)

@@ -1,13 +1,13 @@
 -- Where a key leads, by the number of entries with keys up to it.
-use Rattle.std.proofs.Common.{◌≡◌, ℕ, suc, zero, ◌+◌, ◌<◌, ◌≤◌, Bool, true, false, not, cond, List, [], ◌∷◌, length, get_or, drop, Option, Some, None, refl, sym, ap, ◌∙◌, arith, ◌-◌, inl, inr}
+use Rattle.std.proofs.Common.{◌≡◌, ℕ, suc, zero, ◌<◌, ◌≤◌, Bool, true, false, not, List, [], ◌∷◌, length, get_or, drop, Option, Some, refl, ap, arith, ◌-◌, inl, inr}
 use Rattle.std.proofs.lemmas.Bool.{cases_lt}
 use Rattle.std.specs.List.{AllWithin}
-use Rattle.std.specs.List.Sorted.{IsPartitionedBy, IsPartitionPoint}
+use Rattle.std.specs.List.Sorted.{IsPartitionedBy}
 use Rattle.tm_data.specs.declared.image.Child.{Child}
 use Rattle.tm_data.specs.declared.transaction.Page.{Page}
-use Rattle.page_model.specs.Fences.{key_less}
+use Rattle.key_fences.specs.Fences.{key_less}
 use Rattle.page_model.specs.Sound.{Ascend, child_key}
-use Rattle.page_model.specs.Tree.{Place, next_fence, first_place, entry_places, last_from, child_for}
+use Rattle.page_model.specs.Tree.{Place, next_fence, entry_places, last_from, child_for}
 use Rattle.row_tree.specs.Inside.{ArePartedAt}
 use Rattle.page_model.proofs.KeyLemmas.{ascend_at, not_both, up_to_trans}
 

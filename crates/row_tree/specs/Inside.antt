@@ -1,5 +1,5 @@
 -- Words of the crate's own functions.
-use Rattle.std.specs.Prelude.{◌≡◌, ◌≤◌, ◌<◌, ◌-◌, ℕ, Bool, not, true, false, List, [], ◌++◌, ◌∷◌, length, map, reverse, Option, Some, None, Result, Ok, Err}
+use Rattle.std.specs.Prelude.{◌≡◌, ◌≤◌, ◌<◌, ◌-◌, ℕ, not, true, false, List, ◌++◌, length, map, reverse, Some, Result, Ok, Err}
 use Rattle.std.specs.Option.{option_copied}
 use Rattle.std.specs.List.{AllByRecursion}
 use Rattle.std.specs.List.Sorted.{IsPartitionPoint}
@@ -17,7 +17,7 @@ use Rattle.row_tree.specs.declared.plan.PlanError.TheVariants as plan
 use Rattle.row_tree.specs.declared.place.Place as code
 use Rattle.row_tree.specs.declared.groups.Spot as groups
 use Rattle.row_tree.specs.declared.halves.RightHalf.{RightHalf}
-use Rattle.page_model.specs.Fences.{key_less}
+use Rattle.key_fences.specs.Fences.{key_less}
 use Rattle.page_model.specs.Sound.{IsSound}
 use Rattle.page_model.specs.Splits.{Halves, Spot, Refusal, TooHigh, Wanting, images_on, halves}
 use Rattle.page_model.specs.Tree as model

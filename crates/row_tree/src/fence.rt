@@ -1,38 +1,10 @@
-//! Keys and fences as bytes.
+//! What a page says of itself: its fences, level and table.
 ghost use Rattle.std.specs.Prelude.{◌≡◌};
 ghost use Rattle.std.specs.Option.{option_copied};
-ghost use Rattle.page_model.specs.Fences.{key_less};
-ghost use Rattle.page_model.specs.Tree.{same_fence, low_of, high_of, table_of, level_of};
+ghost use Rattle.page_model.specs.Tree.{low_of, high_of, table_of, level_of};
 
-use tm_base::{Body, Key};
-
-/// Whether a key is below another one.
-pub(crate) fn is_less(a: &[u8], b: &[u8]) -> bool
-    ensures { result ≡ key_less a.now b.now }
-{
-    a.cmp(b).is_lt()
-}
-
-/// The bytes of a fence, none for the open end.
-pub(crate) fn fence_bytes(fence: &Option<Key>) -> Option<&[u8]>
-    ensures { option_copied result ≡ fence.now }
-{
-    match fence {
-        Some(key) => Some(key.as_slice()),
-        None => None,
-    }
-}
-
-/// Whether two fences are one.
-pub(crate) fn same_fence(a: Option<&[u8]>, b: Option<&[u8]>) -> bool
-    ensures { result ≡ same_fence (option_copied a.entry) (option_copied b.entry) }
-{
-    match (a, b) {
-        (None, None) => true,
-        (Some(a), Some(b)) => a == b,
-        _ => false,
-    }
-}
+use key_fences::fence_bytes;
+use tm_base::Body;
 
 /// The low fence of what a page holds.
 pub(crate) fn low_of(body: &Body) -> Option<&[u8]>

@@ -8,8 +8,8 @@ ghost use Rattle.page_model.specs.Sound.{Ascend, key_of, AreSound, IsSound};
 ghost use Rattle.page_model.specs.Splits.{is_full, full_pages, page_above};
 ghost use Rattle.row_tree.specs.Inside.{AreParted, upward, images_at};
 
-use crate::fence::is_less;
 use crate::{Pages, Path};
+use key_fences::is_less;
 use std::alloc::Global;
 use tm_base::{Body, Image, Mem, Row, room, row_size, size};
 

@@ -5,7 +5,8 @@ ghost use Rattle.page_model.specs.Sound.{Ascend, child_key};
 ghost use Rattle.page_model.specs.Tree.{child_for, is_at, is_of, next_fence};
 ghost use Rattle.row_tree.specs.Inside.{place_of, ArePartedAt};
 
-use crate::fence::{fence_bytes, high_of, is_less, low_of, same_fence};
+use crate::fence::{high_of, low_of};
+use key_fences::{fence_bytes, is_less, same_fence};
 use tm_base::{Body, Child, Key, Page};
 
 /// A page as its parent gives it: for the keys from the low fence on and below the high one.

@@ -1,16 +1,17 @@
 //! The plan of a put.
 ghost use Rattle.std.specs.Prelude.{◌≡◌, ◌<◌, ◌≤◌, ◌+◌, ◌-◌, ◌^◌, ◌++◌, length, reverse, IfOk, OnOk, Some, None, if◌then◌else◌};
-ghost use Rattle.page_model.specs.Fences.{key_less};
+ghost use Rattle.key_fences.specs.Fences.{key_less};
 ghost use Rattle.page_model.specs.Tree.{level_of};
 ghost use Rattle.page_model.specs.Sound.{AreSound, IsSound};
 ghost use Rattle.page_model.specs.Splits.{groups_below, groups_of_root, plan_of, plan_with};
 ghost use Rattle.row_tree.specs.Inside.{spot_in, images_at, GivesPlan, IsEnough, AreSoundAt};
 
-use crate::fence::{is_less, level_of, table_of};
+use crate::fence::{level_of, table_of};
 use crate::full::{FullPages, full_pages};
 use crate::groups::{Spot, root_group, row_group, split_group, spot_of};
 use crate::halves::{left_half, right_half};
 use crate::{Pages, Path};
+use key_fences::is_less;
 use std::alloc::Global;
 use tm_base::{Image, ItemList, Key, Mem, NoMemory, Page, RecordList, Row, Stamp};
 

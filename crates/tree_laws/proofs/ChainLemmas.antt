@@ -6,7 +6,7 @@ use Rattle.tm_data.specs.declared.image.Child.{Child}
 use Rattle.tm_data.specs.declared.image.Image.{Image}
 use Rattle.tm_data.specs.declared.image.Body.{Body}
 use Rattle.tm_data.specs.declared.image.Body.TheVariants.{Inner}
-use Rattle.page_model.specs.Fences.{key_less, is_from, is_below, is_within}
+use Rattle.key_fences.specs.Fences.{key_less, is_from, is_below, is_within}
 use Rattle.page_model.specs.Effects.{in_front, entry_added}
 use Rattle.page_model.specs.Tree.{Images, Place, level_of, low_of, high_of, children, child_for}
 use Rattle.page_model.specs.Sound.{Ascend, child_key}

@@ -10,7 +10,7 @@ use Rattle.tm_data.specs.declared.image.Body.TheVariants.{Leaf, Inner}
 use Rattle.tm_data.specs.declared.log.Record.{Record}
 use Rattle.tm_data.specs.declared.log.Record.TheVariants.{RowSet, Cut, Format, NodeAdd}
 use Rattle.tm_base.specs.Sizes.{fence_size}
-use Rattle.page_model.specs.Fences.{is_within}
+use Rattle.key_fences.specs.Fences.{is_within}
 use Rattle.page_model.specs.Effects.{row_set, row_set_in, stamped, child_added}
 use Rattle.page_model.specs.Tree.{Images, level_of, table_of, low_of, high_of, is_of, children, child_for}
 use Rattle.page_model.specs.Splits.{Halves, root_over}

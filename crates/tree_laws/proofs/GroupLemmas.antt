@@ -8,7 +8,7 @@ use Rattle.tm_data.specs.declared.image.Body.{Body}
 use Rattle.tm_data.specs.declared.image.Body.TheVariants.{Blank, Leaf, Inner}
 use Rattle.tm_data.specs.declared.log.Record.{Record}
 use Rattle.tm_base.specs.Sizes.{size_with, fence_size}
-use Rattle.page_model.specs.Fences.{is_within}
+use Rattle.key_fences.specs.Fences.{is_within}
 use Rattle.page_model.specs.Effects.{row_set, row_set_in, suiting, fitting, formatted, child_added, with_entries, entry_added}
 use Rattle.page_model.specs.Tree.{Images, is_of, low_of}
 use Rattle.page_model.specs.Splits.{changed_page, placed}

@@ -9,7 +9,7 @@ use Rattle.tm_data.specs.declared.row.Row.{Row}
 use Rattle.tm_data.specs.declared.image.Child.{Child}
 use Rattle.tm_data.specs.declared.image.Body.TheVariants.{Inner}
 use Rattle.tm_base.specs.Sizes.{child_size, fence_size, size_with}
-use Rattle.page_model.specs.Fences.{key_less, is_from, is_above, is_below, is_within, is_strictly_within}
+use Rattle.key_fences.specs.Fences.{key_less, is_from, is_above, is_below, is_within, is_strictly_within}
 use Rattle.page_model.specs.Effects.{entries_below, cut_at, suiting, fitting}
 use Rattle.page_model.specs.Tree.{next_fence, first_place, entry_places}
 use Rattle.page_model.specs.Sound.{Ascend, child_key, AreFences, AreItems, IsSoundChild, IsSound}

@@ -6,7 +6,7 @@ use Rattle.std.proofs.lemmas.List.Sums.{sum_by-cons}
 use Rattle.std.specs.List.{AllByRecursion}
 use Rattle.tm_data.specs.declared.row.Row.{Row}
 use Rattle.tm_base.specs.Sizes.{row_size}
-use Rattle.page_model.specs.Fences.{key_less}
+use Rattle.key_fences.specs.Fences.{key_less}
 use Rattle.page_model.specs.Effects.{row_set, rows_below}
 use Rattle.page_model.specs.Sound.{Ascend, key_of}
 use Rattle.page_model.specs.Splits.{rows_reaching}

@@ -6,9 +6,9 @@ use Rattle.std.specs.List.{AllByRecursion}
 use Rattle.tm_data.specs.declared.row.Row.{Row}
 use Rattle.tm_data.specs.declared.image.Body.TheVariants.{Leaf}
 use Rattle.tm_base.specs.Sizes.{row_size, fence_size, size_with}
-use Rattle.page_model.specs.Fences.{key_less, is_from, is_above, is_below, is_within, is_strictly_within}
+use Rattle.key_fences.specs.Fences.{key_less, is_from, is_above, is_below, is_within, is_strictly_within, leave_room}
 use Rattle.page_model.specs.Effects.{row_set, rows_below, cut_at, suiting, fitting}
-use Rattle.page_model.specs.Sound.{Ascend, key_of, AreFences, AreItems, IsSoundRow, IsSound, leave_room}
+use Rattle.page_model.specs.Sound.{Ascend, key_of, AreFences, AreItems, IsSoundRow, IsSound}
 use Rattle.page_model.specs.Splits.{Halves, left_rows, leaf_halves, halves, is_full}
 use Rattle.page_model.specs.Tiling.{AreHalves}
 use Rattle.page_model.proofs.KeyLemmas.{not_both, up_to_less, not_less_itself}

@@ -8,7 +8,7 @@ use Rattle.std.specs.declared.cmp.Ordering.TheVariants.{Less, Equal, Greater}
 use Rattle.std.specs.FinMap.{FinMap, get, insert, get-insert}
 use Rattle.std.proofs.lemmas.Map.Lookups.{exact_bytes}
 use Rattle.tm_data.specs.declared.row.Row.{Row}
-use Rattle.page_model.specs.Fences.{key_less}
+use Rattle.key_fences.specs.Fences.{key_less}
 use Rattle.page_model.specs.Tree.{Images}
 use Rattle.page_model.specs.Tiling.{HasRow, IsMap}
 use Rattle.page_model.proofs.KeyLemmas.{Below, Same, Above, compared, not_less_itself}

@@ -5,7 +5,7 @@ use Rattle.std.specs.Prelude.{IsSome}
 use Rattle.tm_data.specs.declared.image.Image.{Image}
 use Rattle.tm_data.specs.declared.image.Body.{Body}
 use Rattle.tm_data.specs.declared.image.Body.TheVariants.{Blank, Leaf, Inner}
-use Rattle.page_model.specs.Fences.{is_from, is_below, is_within}
+use Rattle.key_fences.specs.Fences.{is_from, is_below, is_within}
 use Rattle.page_model.specs.Tree.{Images, Place, level_of, low_of, high_of, is_of, may_hold, children, there, one_below}
 use Rattle.page_model.specs.Sound.{IsSound}
 use Rattle.page_model.specs.Splits.{Halves}

@@ -8,7 +8,7 @@ use Rattle.tm_data.specs.declared.row.Row.{Row}
 use Rattle.tm_data.specs.declared.image.Image.{Image}
 use Rattle.tm_data.specs.declared.image.Body.{Body}
 use Rattle.tm_data.specs.declared.image.Body.TheVariants.{Blank, Leaf, Inner}
-use Rattle.page_model.specs.Fences.{is_within}
+use Rattle.key_fences.specs.Fences.{is_within}
 use Rattle.page_model.specs.Tree.{Images, Place, level_of, high_of, is_of, may_hold, children, child_for, there, one_below, root, with_page, going_on, path_below, path_of}
 use Rattle.page_model.specs.Sound.{IsSound}
 use Rattle.page_model.specs.Splits.{with_image, images_on, is_full, full_pages, page_above}

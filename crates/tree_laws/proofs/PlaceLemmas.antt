@@ -5,7 +5,7 @@ use Rattle.tm_data.specs.declared.transaction.Page.{Page}
 use Rattle.tm_data.specs.declared.image.Child.{Child}
 use Rattle.tm_data.specs.declared.image.Body.{Body}
 use Rattle.tm_data.specs.declared.image.Body.TheVariants.{Blank, Leaf, Inner}
-use Rattle.page_model.specs.Fences.{key_less, is_from, is_below, is_within}
+use Rattle.key_fences.specs.Fences.{key_less, is_from, is_below, is_within}
 use Rattle.page_model.specs.Effects.{in_front, entry_added}
 use Rattle.page_model.specs.Tree.{Place, next_fence, first_place, entry_places, last_from, child_for, children, low_of, high_of}
 use Rattle.page_model.specs.Sound.{Ascend, child_key, IsSoundBody}

@@ -10,10 +10,10 @@ use Rattle.tm_data.specs.declared.image.Body.{Body}
 use Rattle.tm_data.specs.declared.image.Body.TheVariants.{Leaf, Inner}
 use Rattle.tm_data.specs.declared.log.Record.{Record}
 use Rattle.tm_base.specs.Sizes.{size_with}
-use Rattle.page_model.specs.Fences.{key_less, is_from, is_above, is_below, is_within}
+use Rattle.key_fences.specs.Fences.{key_less, is_from, is_above, is_below, is_within, leave_room}
 use Rattle.page_model.specs.Effects.{row_set, child_added, entry_added, with_entries}
 use Rattle.page_model.specs.Tree.{Images, Place, level_of, table_of, low_of, high_of, is_of, may_hold, children, child_for, there, one_below}
-use Rattle.page_model.specs.Sound.{IsSound, IsSoundRow, leave_room, child_key}
+use Rattle.page_model.specs.Sound.{IsSound, IsSoundRow, child_key}
 use Rattle.page_model.specs.Splits.{Halves, spot_of, half_for, is_full, row_group, split_group, splitting, groups_below}
 use Rattle.page_model.specs.Tiling.{Has, Tiles, after, after_all, blank_page, PutsRow, Splits, Fits, FitInTurn}
 use Rattle.page_model.proofs.KeyLemmas.{not_less_itself}

@@ -7,7 +7,7 @@ use Rattle.tm_data.specs.declared.transaction.Page.{Page}
 use Rattle.tm_data.specs.declared.row.Row.{Row}
 use Rattle.tm_data.specs.declared.image.Image.{Image}
 use Rattle.tm_data.specs.declared.log.Record.{Record}
-use Rattle.page_model.specs.Fences.{key_less, is_from, is_below, is_within}
+use Rattle.key_fences.specs.Fences.{key_less, is_from, is_below, is_within}
 use Rattle.page_model.specs.Tree.{Images, Place, level_of, table_of, low_of, high_of, is_of, may_hold, children, path_of}
 use Rattle.page_model.specs.Sound.{IsSoundRow}
 use Rattle.page_model.specs.Splits.{Halves, spot_of, half_for, is_full, images_on, full_pages, page_above, root_group, root_over, splitting_root, groups_below, groups_of_root, Refusal, TooHigh, Wanting, if_enough, plan_with, plan_of}

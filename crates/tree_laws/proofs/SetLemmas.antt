@@ -4,7 +4,7 @@ use Rattle.std.specs.List.{AllByRecursion}
 use Rattle.tm_data.specs.declared.row.Row.{Row}
 use Rattle.tm_data.specs.declared.image.Child.{Child}
 use Rattle.std.specs.Prelude.{Option, Some, None}
-use Rattle.page_model.specs.Fences.{key_less}
+use Rattle.key_fences.specs.Fences.{key_less}
 use Rattle.page_model.specs.Effects.{row_set, in_front, entry_added}
 use Rattle.page_model.specs.Sound.{Ascend, key_of, child_key}
 use Rattle.page_model.proofs.KeyLemmas.{less_trans, one_key, not_less_itself}

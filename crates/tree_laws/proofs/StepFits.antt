@@ -10,10 +10,10 @@ use Rattle.tm_data.specs.declared.image.Child.{Child}
 use Rattle.tm_data.specs.declared.image.Body.{Body}
 use Rattle.tm_data.specs.declared.image.Body.TheVariants.{Blank, Leaf, Inner}
 use Rattle.tm_base.specs.Sizes.{child_size}
-use Rattle.page_model.specs.Fences.{key_less, is_below}
+use Rattle.key_fences.specs.Fences.{key_less, is_below, leave_room}
 use Rattle.page_model.specs.Effects.{cut_at, entry_added, in_front}
 use Rattle.page_model.specs.Tree.{Place, level_of, low_of, high_of, is_of, entry_places, children}
-use Rattle.page_model.specs.Sound.{IsSound, IsSoundRow, leave_room, child_key}
+use Rattle.page_model.specs.Sound.{IsSound, IsSoundRow, child_key}
 use Rattle.page_model.specs.Splits.{Halves, halves, is_full}
 use Rattle.page_model.specs.Tiling.{AreHalves}
 use Rattle.tree_laws.proofs.ListLemmas.{IsIn, all_map}

@@ -5,7 +5,8 @@ use Rattle.std.specs.Prelude.{IsSome}
 use Rattle.tm_data.specs.declared.image.Image.{Image}
 use Rattle.tm_data.specs.declared.image.Body.{Body}
 use Rattle.tm_data.specs.declared.image.Body.TheVariants.{Blank, Leaf, Inner}
-use Rattle.page_model.specs.Tree.{Images, Place, level_of, table_of, low_of, high_of, is_of, is_at, body_at, there, one_below, same_fence, root}
+use Rattle.key_fences.specs.Fences.{same_fence}
+use Rattle.page_model.specs.Tree.{Images, Place, level_of, table_of, low_of, high_of, is_of, is_at, body_at, there, one_below, root}
 use Rattle.page_model.specs.Tiling.{Has}
 use Rattle.tree_laws.proofs.FenceLemmas.{both, both_true, same_is, is_same_as}
 

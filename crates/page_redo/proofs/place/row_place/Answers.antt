@@ -1,6 +1,6 @@
-use Rattle.std.proofs.Common.{ℕ, Bool, List, sym, ◌∙◌, arith}
+use Rattle.std.proofs.Common.{ℕ, Bool, List, arith}
 use Rattle.tm_data.specs.declared.row.Row.{Row}
-use Rattle.page_model.specs.Fences.{key_less}
+use Rattle.key_fences.specs.Fences.{key_less}
 use Rattle.page_redo.specs.Places.{row_place}
 use Rattle.page_redo.proofs.PlaceLemmas.{shifted_none, passes, stops_before, stops_at, stops_last}
 use Rattle.page_redo.proofs.place.row_place.Goals as goal
@@ -16,15 +16,15 @@ loop-at-init c = shifted_none (row_place c.args.rows.now c.args.key.now)
 
 pub returns-then-is_less-clause-place : goal.returns-then-is_less-clause-place
 returns-then-is_less-clause-place c =
-    stops_before (before c.args.key.now) (after c.args.key.now) c.args.rows.now c.loop-at.at c.index-rows-at.result (row_place c.args.rows.now c.args.key.now) (omega arith) c.index-rows-at.is (sym c.is_less.ensures ∙ c.if-not-is_less.true) (sym c.is_less-then-not-is_less.ensures ∙ c.if-is_less.true) c.loop-at.invariant
+    stops_before (before c.args.key.now) (after c.args.key.now) c.args.rows.now c.loop-at.at c.index-rows-at.result (row_place c.args.rows.now c.args.key.now) (omega arith) c.index-rows-at.is (grind (arith, c.is_less.ensures, c.as_slice.ensures.same, c.as_slice-in-loop-at.ensures.same, c.if-not-is_less.true)) (grind (arith, c.is_less-then-not-is_less.ensures, c.as_slice-then-not-is_less.ensures.same, c.as_slice-then-not-is_less-2.ensures.same, c.if-is_less.true)) c.loop-at.invariant
 
 pub returns-else-is_less-clause-place : goal.returns-else-is_less-clause-place
 returns-else-is_less-clause-place c =
-    stops_at (before c.args.key.now) (after c.args.key.now) c.args.rows.now c.loop-at.at c.index-rows-at.result (row_place c.args.rows.now c.args.key.now) (omega arith) c.index-rows-at.is (sym c.is_less.ensures ∙ c.if-not-is_less.true) (sym c.is_less-then-not-is_less.ensures ∙ c.if-is_less.false) c.loop-at.invariant
+    stops_at (before c.args.key.now) (after c.args.key.now) c.args.rows.now c.loop-at.at c.index-rows-at.result (row_place c.args.rows.now c.args.key.now) (omega arith) c.index-rows-at.is (grind (arith, c.is_less.ensures, c.as_slice.ensures.same, c.as_slice-in-loop-at.ensures.same, c.if-not-is_less.true)) (grind (arith, c.is_less-then-not-is_less.ensures, c.as_slice-then-not-is_less.ensures.same, c.as_slice-then-not-is_less-2.ensures.same, c.if-is_less.false)) c.loop-at.invariant
 
 pub loop-at-preserved : goal.loop-at-preserved
 loop-at-preserved c =
-    passes (before c.args.key.now) (after c.args.key.now) c.args.rows.now c.loop-at.at c.index-rows-at.result (row_place c.args.rows.now c.args.key.now) (omega arith) c.index-rows-at.is (sym c.is_less.ensures ∙ c.if-not-is_less.false) c.loop-at.invariant
+    passes (before c.args.key.now) (after c.args.key.now) c.args.rows.now c.loop-at.at c.index-rows-at.result (row_place c.args.rows.now c.args.key.now) (omega arith) c.index-rows-at.is (grind (arith, c.is_less.ensures, c.as_slice.ensures.same, c.as_slice-in-loop-at.ensures.same, c.if-not-is_less.false)) c.loop-at.invariant
 
 pub returns-clause-place : goal.returns-clause-place
 returns-clause-place c =

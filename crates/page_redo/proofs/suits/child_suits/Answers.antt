@@ -7,11 +7,11 @@ use Rattle.page_redo.specs.Places.{child_place, is_before}
 use Rattle.page_redo.proofs.SetLemmas.{inner_suits, inner_outside, inner_held}
 use Rattle.page_redo.proofs.suits.child_suits.Goals as goal
 
-pub returns-then-not-is_within : goal.returns-then-not-is_within
-returns-then-not-is_within c =
+pub returns-then-not-may_stand : goal.returns-then-not-may_stand
+returns-then-not-may_stand c =
     let it = c.in-Inner in
     let new : Child = record { key = c.args.key.now; page = c.args.child } in
-    inner_outside it.table it.level it.low it.high it.first it.entries new (sym c.is_within.ensures ∙ c.if-not-is_within.true)
+    inner_outside it.table it.level it.low it.high it.first it.entries new (sym c.may_stand.ensures ∙ c.if-not-may_stand.true)
     ∙ ap (λ b. is_some (child_added b new)) (sym it.is)
 
 pub returns-then-not-is_new : goal.returns-then-not-is_new
@@ -27,5 +27,5 @@ returns-else-not-is_new c =
     let new : Child = record { key = c.args.key.now; page = c.args.child } in
     let sum : c.saturating_add.result ≡ min (c.size.result + (5 + length c.args.key.now)) MOST = c.saturating_add.ensures ∙ ap (λ (k : List ℕ). min (c.size.result + (5 + length k)) MOST) c.as_slice-in-Inner.ensures.same in
     ap (λ n. nat_le n 8192) sum
-    ∙ inner_suits it.table it.level it.low it.high it.first it.entries new c.size.result (c.size.ensures ∙ ap (λ b. min (size_with b) MOST) it.is) (sym c.is_within.ensures ∙ c.if-not-is_within.false) (sym (ap (λ (l : List Child). is_before (child_place l c.args.key.now)) c.as_slice.ensures) ∙ sym c.is_new.ensures ∙ c.if-not-is_new.false)
+    ∙ inner_suits it.table it.level it.low it.high it.first it.entries new c.size.result (c.size.ensures ∙ ap (λ b. min (size_with b) MOST) it.is) (sym c.may_stand.ensures ∙ c.if-not-may_stand.false) (sym (ap (λ (l : List Child). is_before (child_place l c.args.key.now)) c.as_slice.ensures) ∙ sym c.is_new.ensures ∙ c.if-not-is_new.false)
     ∙ ap (λ b. is_some (child_added b new)) (sym it.is)

@@ -1,4 +1,4 @@
-use Rattle.std.proofs.Common.{◌≡◌, Some, sym, ap, ◌∙◌, subst, arith, List}
+use Rattle.std.proofs.Common.{◌≡◌, Some, sym, subst, arith, List}
 use Rattle.tm_data.specs.declared.transaction.Page.{Page}
 use Rattle.page_model.specs.Splits.{full_pages, page_above}
 use Rattle.row_tree.specs.Inside.{upward, images_at}

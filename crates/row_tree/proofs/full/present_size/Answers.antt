@@ -1,6 +1,6 @@
-use Rattle.std.proofs.Common.{◌≡◌, ◌<◌, ◌+◌, List, ℕ, length, get_or, true, false, sym, ap, subst, ◌∙◌, arith}
+use Rattle.std.proofs.Common.{◌≡◌, ◌<◌, List, ℕ, length, get_or, true, false, sym, ap, subst, ◌∙◌, arith}
 use Rattle.tm_base.specs.Sizes.{row_size}
-use Rattle.page_model.specs.Fences.{key_less}
+use Rattle.key_fences.specs.Fences.{key_less}
 use Rattle.row_tree.specs.Inside.{AreParted}
 use Rattle.row_tree.proofs.RowLemmas.{size_more, size_changed}
 use Rattle.row_tree.proofs.full.present_size.Goals as goal

@@ -1,4 +1,4 @@
-use Rattle.std.proofs.Common.{◌≡◌, ◌∷◌, [], ◌++◌, sym, ◌∙◌, subst, ap}
+use Rattle.std.proofs.Common.{sym, subst}
 use Rattle.tm_data.specs.declared.image.Child.{Child}
 use Rattle.std.proofs.Common.{List, Result}
 use Rattle.tm_data.specs.declared.transaction.Page.{Page}

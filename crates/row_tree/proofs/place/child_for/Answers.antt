@@ -1,4 +1,4 @@
-use Rattle.std.proofs.Common.{◌∙◌, sym, arith}
+use Rattle.std.proofs.Common.{arith}
 use Rattle.row_tree.proofs.PlaceLemmas.{leads_first, leads_entry}
 use Rattle.row_tree.proofs.place.child_for.Goals as goal
 

@@ -1,6 +1,6 @@
 use Rattle.std.proofs.Common.{rules, of_calls, not}
 use Rattle.std.proofs.lemmas.Fn.{always_returns_same}
-use Rattle.page_model.specs.Fences.{key_less}
+use Rattle.key_fences.specs.Fences.{key_less}
 use Rattle.row_tree.proofs.PlaceLemmas.{are_parted}
 use Rattle.row_tree.proofs.place.entries_up_to.Goals as goal
 

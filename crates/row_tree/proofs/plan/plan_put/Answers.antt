@@ -1,6 +1,5 @@
-use Rattle.std.proofs.Common.{◌≡◌, ◌≤◌, ◌<◌, ◌+◌, ◌^◌, List, None, Some, Result, length, sym, ap, ◌∙◌, subst, arith, Bor}
+use Rattle.std.proofs.Common.{◌≡◌, ◌<◌, ◌+◌, ◌^◌, List, None, Some, Result, length, sym, ap, ◌∙◌, subst, arith}
 use Rattle.std.specs.Option.{option_copied}
-use Rattle.tm_data.specs.declared.image.Image.{Image}
 use Rattle.tm_data.specs.declared.log.Record.{Record}
 use Rattle.page_model.specs.Splits.{Refusal, full_pages, page_above}
 use Rattle.row_tree.specs.Inside.{GivesPlan, upward, images_at}

@@ -1,7 +1,7 @@
 -- Keys in order, and the fences that say which keys a page may have.
-use Rattle.std.specs.Prelude.{ℕ, Bool, true, not, ◌&&◌, List, Option, Some, None}
+use Rattle.std.specs.Prelude.{ℕ, Bool, true, false, not, ◌&&◌, nat_eq, List, Option, Some, None}
 use Rattle.std.specs.Ordering.{nat_cmp, is_lt}
-use Rattle.std.specs.Cmp.Lexicographic.{slice_cmp}
+use Rattle.std.specs.Cmp.Lexicographic.{slice_cmp, pointwise}
 
 -- Keys are ordered byte by byte.
 abbrev pub key_less : List ℕ → List ℕ → Bool
@@ -29,3 +29,15 @@ is_within low high key = is_from low key && is_below high key
 -- A key parts what is between the fences: some keys may stand on each side of it.
 abbrev pub is_strictly_within : Option (List ℕ) → Option (List ℕ) → List ℕ → Bool
 is_strictly_within low high key = is_above low key && is_below high key
+
+-- Some key may stand between the fences: the low one is below the high one, or one is open.
+abbrev pub leave_room : Option (List ℕ) → Option (List ℕ) → Bool
+leave_room low None = true
+leave_room None (Some high) = true
+leave_room (Some low) (Some high) = key_less low high
+
+-- Two fences are one.
+abbrev pub same_fence : Option (List ℕ) → Option (List ℕ) → Bool
+same_fence None None = true
+same_fence (Some a) (Some b) = pointwise nat_eq a b
+same_fence a b = false
