@@ -4,6 +4,8 @@ use Rattle.tm_data.specs.declared.row.Row.{Row}
 use Rattle.tm_data.specs.declared.image.Child.{Child}
 use Rattle.tm_data.specs.declared.image.Body.{Body}
 use Rattle.tm_data.specs.declared.image.Body.TheVariants.{Blank, Leaf, Inner}
+use Rattle.tm_data.specs.declared.log.Record.{Record}
+use Rattle.tm_data.specs.declared.log.Record.TheVariants.{RowSet, NodeAdd}
 use Rattle.tm_base.specs.Sizes.{row_size}
 use Rattle.key_fences.specs.Fences.{key_less}
 use Rattle.page_model.specs.Effects.{row_set, rows_below, entries_below}
@@ -27,6 +29,22 @@ row_place rows key = place (λ r. key_less r.key key) (λ r. key_less key r.key)
 
 abbrev pub child_place : List Child → List ℕ → Place
 child_place entries key = place (λ c. key_less c.key key) (λ c. key_less key c.key) entries
+
+-- The place of a key in a page: among the rows of a leaf, or among the entries of an inner page; elsewhere the first
+-- place.
+abbrev pub row_place_in : Body → List ℕ → Place
+row_place_in (Leaf table low high rows) key = row_place rows key
+row_place_in body key = Before 0
+
+abbrev pub child_place_in : Body → List ℕ → Place
+child_place_in (Inner table level low high first entries) key = child_place entries key
+child_place_in body key = Before 0
+
+-- The place of the key that a record sets or adds; the first place where it does neither.
+abbrev pub place_of : Body → Record → Place
+place_of body (RowSet page prev table row) = row_place_in body row.key
+place_of body (NodeAdd page prev key child) = child_place_in body key
+place_of body change = Before 0
 
 -- Whether it is a place for a new item.
 abbrev pub is_before : Place → Bool

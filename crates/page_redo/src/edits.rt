@@ -1,23 +1,24 @@
 //! What records change in pages, in place.
 ghost use Rattle.std.specs.Prelude.{◌≡◌, OnOk, OnErr, IsSome, Some};
 ghost use Rattle.page_model.specs.Effects.{redone, row_set, rows_below, entries_below};
-ghost use Rattle.page_redo.specs.Places.{row_put, child_put, child_set, cut_below};
+ghost use Rattle.page_redo.specs.Places.{row_place, row_place_in, child_place, child_place_in, place_of, row_put, child_put, child_set, cut_below};
 
-use crate::place::{Place, child_place, row_place};
+use crate::place::Place;
 use key_fences::is_less;
 use std::mem;
 use tm_base::{Body, Child, ItemList, Key, Mem, Record, Row, TryCopy};
 
-/// Makes the change of a record that suits. With want of memory nothing changes.
-pub(crate) fn redo(body: &mut Body, change: &Record) -> Mem<()>
-    requires { IsSome (redone body.old change.now) }
+/// Makes the change of a record that suits, whose key has this place. With want of memory nothing changes.
+pub(crate) fn redo(body: &mut Body, change: &Record, place: Place) -> Mem<()>
+    requires suits { IsSome (redone body.old change.now) }
+    requires at { place ≡ place_of body.old change.now }
     ensures ok { OnOk result (redone body.old change.now ≡ Some body.new) }
     ensures err { OnErr result (body.new ≡ body.old) }
 {
     match change {
         Record::RowSet { row, .. } => {
             let new = row.copy()?;
-            put_row(body, new)?;
+            put_row(body, new, place)?;
         }
         Record::Cut { at, .. } => {
             let at = at.copy()?;
@@ -29,15 +30,16 @@ pub(crate) fn redo(body: &mut Body, change: &Record) -> Mem<()>
         }
         Record::NodeAdd { key, child, .. } => {
             let key = key.copy()?;
-            put_child(body, Child { key, page: *child })?;
+            put_child(body, Child { key, page: *child }, place)?;
         }
         _ => {}
     }
     Ok(())
 }
 
-/// Sets a row in a leaf.
-fn put_row(body: &mut Body, new: Row) -> Mem<()>
+/// Sets a row in a leaf, in the place of its key.
+fn put_row(body: &mut Body, new: Row, place: Place) -> Mem<()>
+    requires { place ≡ row_place_in body.old new.key }
     ensures ok { OnOk result (body.new ≡ row_put body.old new) }
     ensures err { OnErr result (body.new ≡ body.old) }
 {
@@ -49,7 +51,7 @@ fn put_row(body: &mut Body, new: Row) -> Mem<()>
             rows,
         } => {
             let mut rows = rows.into_vec();
-            let outcome = put_in(&mut rows, new);
+            let outcome = put_in(&mut rows, new, place);
             *body = Body::Leaf {
                 table,
                 low,
@@ -65,20 +67,24 @@ fn put_row(body: &mut Body, new: Row) -> Mem<()>
     }
 }
 
-/// Sets a row among others: in the place of the one that has its key, or between its neighbours.
-fn put_in(rows: &mut Vec<Row>, new: Row) -> Mem<()>
+/// Sets a row among others, in the place of its key: that of the row that has it, or between its
+/// neighbours.
+#[tactic(auto, using(crate::proofs::PlaceLemmas::row_at, crate::proofs::PlaceLemmas::row_before))]
+fn put_in(rows: &mut Vec<Row>, new: Row, place: Place) -> Mem<()>
+    requires { place ≡ row_place rows.old.items new.key }
     ensures ok { OnOk result (rows.new.items ≡ row_set rows.old.items new) }
     ensures err { OnErr result (rows.new.items ≡ rows.old.items) }
 {
-    match row_place(rows.as_slice(), &new.key) {
+    match place {
         Place::At(at) => rows[at] = new,
         Place::Before(at) => rows.insert(at, new)?,
     }
     Ok(())
 }
 
-/// Adds a child to an inner page that has none with its key.
-fn put_child(body: &mut Body, new: Child) -> Mem<()>
+/// Adds a child to an inner page that has none with its key, in the place of its key.
+fn put_child(body: &mut Body, new: Child, place: Place) -> Mem<()>
+    requires { place ≡ child_place_in body.old new.key }
     ensures ok { OnOk result (body.new ≡ child_put body.old new) }
     ensures err { OnErr result (body.new ≡ body.old) }
 {
@@ -92,7 +98,7 @@ fn put_child(body: &mut Body, new: Child) -> Mem<()>
             entries,
         } => {
             let mut entries = entries.into_vec();
-            let outcome = add_in(&mut entries, new);
+            let outcome = add_in(&mut entries, new, place);
             *body = Body::Inner {
                 table,
                 level,
@@ -110,12 +116,14 @@ fn put_child(body: &mut Body, new: Child) -> Mem<()>
     }
 }
 
-/// Adds a child among others, between its neighbours.
-fn add_in(entries: &mut Vec<Child>, new: Child) -> Mem<()>
+/// Adds a child among others, in the place of its key.
+#[tactic(auto, using(crate::proofs::PlaceLemmas::child_at, crate::proofs::PlaceLemmas::child_before))]
+fn add_in(entries: &mut Vec<Child>, new: Child, place: Place) -> Mem<()>
+    requires { place ≡ child_place entries.old.items new.key }
     ensures ok { OnOk result (entries.new.items ≡ child_set entries.old.items new) }
     ensures err { OnErr result (entries.new.items ≡ entries.old.items) }
 {
-    match child_place(entries.as_slice(), &new.key) {
+    match place {
         Place::At(at) => entries[at] = new,
         Place::Before(at) => entries.insert(at, new)?,
     }

@@ -1,9 +1,9 @@
 //! Where a key has its place in a page.
-ghost use Rattle.std.specs.Prelude.{◌≡◌, length};
-ghost use Rattle.page_redo.specs.Places.{row_place, child_place, IsPlaceIn};
+ghost use Rattle.std.specs.Prelude.{◌≡◌};
+ghost use Rattle.page_redo.specs.Places.{row_place, row_place_in, child_place, child_place_in, place_of};
 
 use key_fences::is_less;
-use tm_base::{Child, Key, Row};
+use tm_base::{Body, Child, Key, Record, Row};
 
 /// The place of a key in a list that ascends by key. Places are counted from 0.
 #[derive(Clone, Copy)]
@@ -15,9 +15,8 @@ pub(crate) enum Place {
 }
 
 /// The place of a key among rows.
-pub(crate) fn row_place(rows: &[Row], key: &Key) -> Place
-    ensures place { result ≡ row_place rows.now key.now }
-    ensures within { IsPlaceIn result (length rows.now) }
+fn row_place(rows: &[Row], key: &Key) -> Place
+    ensures { result ≡ row_place rows.now key.now }
 {
     for (at, item) in rows.iter().enumerate() {
         if !is_less(item.key.as_slice(), key.as_slice()) {
@@ -32,9 +31,8 @@ pub(crate) fn row_place(rows: &[Row], key: &Key) -> Place
 }
 
 /// The place of a key among children.
-pub(crate) fn child_place(entries: &[Child], key: &Key) -> Place
-    ensures place { result ≡ child_place entries.now key.now }
-    ensures within { IsPlaceIn result (length entries.now) }
+fn child_place(entries: &[Child], key: &Key) -> Place
+    ensures { result ≡ child_place entries.now key.now }
 {
     for (at, item) in entries.iter().enumerate() {
         if !is_less(item.key.as_slice(), key.as_slice()) {
@@ -46,4 +44,33 @@ pub(crate) fn child_place(entries: &[Child], key: &Key) -> Place
         }
     }
     Place::Before(entries.len())
+}
+
+fn row_place_in(body: &Body, key: &Key) -> Place
+    ensures { result ≡ row_place_in body.now key.now }
+{
+    match body {
+        Body::Leaf { rows, .. } => row_place(rows.as_slice(), key),
+        _ => Place::Before(0),
+    }
+}
+
+fn child_place_in(body: &Body, key: &Key) -> Place
+    ensures { result ≡ child_place_in body.now key.now }
+{
+    match body {
+        Body::Inner { entries, .. } => child_place(entries.as_slice(), key),
+        _ => Place::Before(0),
+    }
+}
+
+/// The place in a page of the key that a record sets or adds; the first place where it does neither.
+pub(crate) fn place_of(body: &Body, change: &Record) -> Place
+    ensures { result ≡ place_of body.now change.now }
+{
+    match change {
+        Record::RowSet { row, .. } => row_place_in(body, &row.key),
+        Record::NodeAdd { key, .. } => child_place_in(body, key),
+        _ => Place::Before(0),
+    }
 }

@@ -5,6 +5,7 @@ ghost use Rattle.page_redo.specs.Redo.{redo_of, Answers};
 
 use crate::RedoError;
 use crate::edits::redo;
+use crate::place::place_of;
 use crate::suits::suits;
 use tm_base::{Image, Record, Stamp};
 
@@ -24,10 +25,11 @@ pub fn apply(image: &mut Image, change: &Record, stamp: Stamp) -> Result<(), Red
             wants,
         });
     }
-    if !suits(image, change) {
+    let place = place_of(&image.body, change);
+    if !suits(image, change, place) {
         return Err(RedoError::Unfit);
     }
-    redo(&mut image.body, change)?;
+    redo(&mut image.body, change, place)?;
     image.stamp = stamp;
     Ok(())
 }

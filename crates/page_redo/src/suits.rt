@@ -3,30 +3,32 @@ ghost use Rattle.std.specs.Prelude.{◌≡◌, ◌+◌, min, length, sum_by, is_
 ghost use Rattle.tm_base.specs.Sizes.{MOST, row_size, child_size, fence_size};
 ghost use Rattle.key_fences.specs.Fences.{is_within};
 ghost use Rattle.page_model.specs.Effects.{rows_below, entries_below, row_set_in, cut_at, formatted, child_added, redone};
-ghost use Rattle.page_redo.specs.Places.{child_place, is_before, size_there, row_fits};
+ghost use Rattle.page_redo.specs.Places.{row_place, row_place_in, child_place_in, place_of, is_before, size_at, size_there, row_fits};
 
-use crate::place::{Place, child_place, row_place};
+use crate::place::Place;
 use key_fences::{fence_bytes, is_less, is_strictly_within, is_within};
 use tm_base::{Body, Child, Image, Key, Page, Record, Row, row_size, size};
 
 /// An image has at most 8,192 bytes.
 const MAX_IMAGE: usize = 8192;
 
-/// Whether a record suits a page.
-pub(crate) fn suits(image: &Image, change: &Record) -> bool
+/// Whether a record suits a page, where its key has this place.
+pub(crate) fn suits(image: &Image, change: &Record, place: Place) -> bool
+    requires { place ≡ place_of image.now.body change.now }
     ensures { result ≡ is_some (redone image.now.body change.now) }
 {
     match change {
-        Record::RowSet { table, row, .. } => row_suits(image, *table, row),
+        Record::RowSet { table, row, .. } => row_suits(image, *table, row, place),
         Record::Cut { at, .. } => cut_suits(&image.body, at),
         Record::Format { body, .. } => !matches!(body, Body::Blank),
-        Record::NodeAdd { key, child, .. } => child_suits(image, key, *child),
+        Record::NodeAdd { key, child, .. } => child_suits(image, key, *child, place),
         Record::End { .. } => false,
         Record::Beat => false,
     }
 }
 
-fn row_suits(image: &Image, table: u16, new: &Row) -> bool
+fn row_suits(image: &Image, table: u16, new: &Row, place: Place) -> bool
+    requires { place ≡ row_place_in image.now.body new.now.key }
     ensures { result ≡ is_some (row_set_in image.now.body table new.entry.now) }
 {
     match &image.body {
@@ -42,7 +44,7 @@ fn row_suits(image: &Image, table: u16, new: &Row) -> bool
             if !may_stand(low, high, &new.key) {
                 return false;
             }
-            row_fits(size(image), rows.as_slice(), new)
+            row_fits(size(image), rows.as_slice(), new, place)
         }
         _ => false,
     }
@@ -55,23 +57,27 @@ fn may_stand(low: &Option<Key>, high: &Option<Key>, key: &Key) -> bool
     is_within(fence_bytes(low), fence_bytes(high), key.as_slice())
 }
 
-/// Whether a page of this size may have this row set among these.
-fn row_fits(whole: usize, rows: &[Row], new: &Row) -> bool
+/// Whether a page of this size may have this row set among these, in this place.
+fn row_fits(whole: usize, rows: &[Row], new: &Row, place: Place) -> bool
+    requires { place ≡ row_place rows.now new.now.key }
     ensures test { result ≡ row_fits whole rows.now new.entry.now }
     ensures small { size_there rows.now new.entry.now.key ≤ 1101 }
 {
-    whole.saturating_add(row_size(new)) <= MAX_IMAGE + size_there(rows, &new.key)
+    whole.saturating_add(row_size(new)) <= MAX_IMAGE + size_at(rows, place)
 }
 
-/// The size of the row of that key, 0 where there is none.
-fn size_there(rows: &[Row], key: &Key) -> usize
-    ensures value { result ≡ size_there rows.now key.now }
+/// The size of the row in a place, 0 where there is none.
+fn size_at(rows: &[Row], place: Place) -> usize
+    ensures value { result ≡ size_at rows.now place }
     ensures most { result ≤ 1101 }
 {
-    match row_place(rows, key) {
-        Place::At(at) => row_size(&rows[at]),
-        Place::Before(_) => 0,
-    }
+    let Place::At(at) = place else {
+        return 0;
+    };
+    let Some(row) = rows.get(at) else {
+        return 0;
+    };
+    row_size(row)
 }
 
 fn cut_suits(body: &Body, at: &Key) -> bool
@@ -145,20 +151,16 @@ fn entries_size_below(entries: &[Child], at: &Key) -> usize
     total
 }
 
-fn child_suits(image: &Image, key: &Key, child: Page) -> bool
+fn child_suits(image: &Image, key: &Key, child: Page, place: Place) -> bool
+    requires { place ≡ child_place_in image.now.body key.now }
     ensures { result ≡ is_some (child_added image.now.body (record { key = key.now; page = child })) }
 {
     match &image.body {
-        Body::Inner {
-            low,
-            high,
-            entries,
-            ..
-        } => {
+        Body::Inner { low, high, .. } => {
             if !may_stand(low, high, key) {
                 return false;
             }
-            if !is_new(entries.as_slice(), key) {
+            if !is_new(place) {
                 return false;
             }
             size(image).saturating_add(5 + key.as_slice().len()) <= MAX_IMAGE
@@ -167,11 +169,11 @@ fn child_suits(image: &Image, key: &Key, child: Page) -> bool
     }
 }
 
-/// Whether no child has the key.
-fn is_new(entries: &[Child], key: &Key) -> bool
-    ensures { result ≡ is_before (child_place entries.now key.now) }
+/// Whether it is a place for a new item.
+fn is_new(place: Place) -> bool
+    ensures { result ≡ is_before place }
 {
-    match child_place(entries, key) {
+    match place {
         Place::At(_) => false,
         Place::Before(_) => true,
     }

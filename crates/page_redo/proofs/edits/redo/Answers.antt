@@ -12,4 +12,4 @@ returns-in_ok-put_child-in-NodeAdd-clause-ok c =
     let body = c.args.body.now in
     let new : Child = record { key = it.key; page = it.child } in
     let made = c.in_ok-put_child-in-NodeAdd.ensures.ok ∙ ap (λ (k : List ℕ). child_put body (record { key = k; page = it.child })) c.in_ok-key-in-NodeAdd.ensures in
-    ap (redone body) it.is ∙ child_suited body new (subst (λ r. IsSome (redone body r)) it.is c.requires) ∙ ap Some (sym made)
+    ap (redone body) it.is ∙ child_suited body new (subst (λ r. IsSome (redone body r)) it.is c.requires.suits) ∙ ap Some (sym made)
