@@ -18,3 +18,6 @@ pub mod StepFits
 pub mod PlanFits
 pub mod PathFits
 pub mod PlanLaw
+pub mod OtherTables
+pub mod LeafOfKey
+pub mod TableMap

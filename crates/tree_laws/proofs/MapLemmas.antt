@@ -14,7 +14,7 @@ use Rattle.page_model.specs.Tiling.{HasRow, IsMap}
 use Rattle.page_model.proofs.KeyLemmas.{Below, Same, Above, compared, not_less_itself}
 use Rattle.tree_laws.specs.Claims.{SetsRow}
 
-one_key_or : (a b : List ℕ) → (a ≡ b) ⊎ (a ≢ b)
+pub one_key_or : (a b : List ℕ) → (a ≡ b) ⊎ (a ≢ b)
 one_key_or a b =
     elim (compared a b) [
       | Below x y ↦ inr (λ e. let n = not_less_itself a in let t : key_less a a ≡ true = ap (key_less a) e ∙ x in cc)
@@ -22,7 +22,7 @@ one_key_or a b =
       | Above x y ↦ inr (λ e. let n = not_less_itself b in let t : key_less b b ≡ true = ap (key_less b) (sym e) ∙ y in cc)
     ]
 
-get_same : (m : FinMap (slice_cmp nat_cmp) Row) (key : List ℕ) (row : Row) → get (insert m key row) key ≡ Some row
+pub get_same : (m : FinMap (slice_cmp nat_cmp) Row) (key : List ℕ) (row : Row) → get (insert m key row) key ≡ Some row
 get_same m key row =
     get-insert nat_list_cmp_total m key row key ∙ ap (λ o. cond (is_eq o) (Some row) (get m key)) (tied_itself nat_list_cmp_total key)
 
@@ -31,7 +31,7 @@ apart_by a b Less e d = refl
 apart_by a b Equal e d = absurd (d (exact_bytes a b e))
 apart_by a b Greater e d = refl
 
-get_other : (m : FinMap (slice_cmp nat_cmp) Row) (key q : List ℕ) (row : Row) → q ≢ key → get (insert m key row) q ≡ get m q
+pub get_other : (m : FinMap (slice_cmp nat_cmp) Row) (key q : List ℕ) (row : Row) → q ≢ key → get (insert m key row) q ≡ get m q
 get_other m key q row d =
     get-insert nat_list_cmp_total m key row q ∙ ap (λ b. cond b (Some row) (get m q)) (apart_by q key (slice_cmp nat_cmp q key) refl d)
 

@@ -24,11 +24,11 @@ in_middle (z ∷ zs) x ys = inr (in_middle zs x ys)
 
 -- ---- a path, a page at a time
 
-page_by : (page : Page) (way : Result (List Page) Page) (pages : List Page) → with_page page way ≡ Ok pages → (rest : List Page) × (way ≡ Ok rest) × (pages ≡ page ∷ rest)
+pub page_by : (page : Page) (way : Result (List Page) Page) (pages : List Page) → with_page page way ≡ Ok pages → (rest : List Page) × (way ≡ Ok rest) × (pages ≡ page ∷ rest)
 page_by page (Ok rest) pages h = (rest, refl, cc)
 page_by page (Err p) pages h = cc
 
-on_by : (page : Page) (o : Option Body) (from : Body → Result (List Page) Page) (pages : List Page) → going_on page o from ≡ Ok pages → (b : Body) × (o ≡ Some b) × (with_page page (from b) ≡ Ok pages)
+pub on_by : (page : Page) (o : Option Body) (from : Body → Result (List Page) Page) (pages : List Page) → going_on page o from ≡ Ok pages → (b : Body) × (o ≡ Some b) × (with_page page (from b) ≡ Ok pages)
 on_by page None from pages h = cc
 on_by page (Some b) from pages h = (b, refl, h)
 

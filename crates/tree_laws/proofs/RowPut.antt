@@ -37,12 +37,12 @@ pub record Was (images : Images) (table x : ℕ) (m : Image) : Type 0 where
   pub high : high_of m.body ≡ high_of o.body
   pub children : children m.body ≡ children o.body
 
-leaf_level : (b : Body) (row : Row) → Contains (rows_of b) row → level_of b ≡ 0
+pub leaf_level : (b : Body) (row : Row) → Contains (rows_of b) row → level_of b ≡ 0
 leaf_level Blank row c = refl
 leaf_level (Leaf table low high rows) row c = refl
 leaf_level (Inner table level low high first entries) row c = let lt = c.1 in absurd (omega (arith, lt))
 
-row_within : (b : Body) (row : Row) → IsSound b → Contains (rows_of b) row → may_hold b row.key ≡ true
+pub row_within : (b : Body) (row : Row) → IsSound b → Contains (rows_of b) row → may_hold b row.key ≡ true
 row_within Blank row ok c = let lt = c.1 in absurd (omega (arith, lt))
 row_within (Leaf table low high rows) row ok c = in_all (λ (r : Row). is_within low high (key_of r) ≡ true) rows row ok.parts.1.within (in_from rows row c)
 row_within (Inner table level low high first entries) row ok c = let lt = c.1 in absurd (omega (arith, lt))

@@ -17,7 +17,7 @@ module _ (images : Images) (table : ℕ) (key : List ℕ) (tiles : Tiles images 
   abbrev Way : ℕ → Body → Type 0
   Way n body = (pages : List Page) × (path_below images table key n body ≡ Ok pages) × (length pages ≡ n)
 
-  all_there : (x : ℕ) (k : Image) → Has images table x k → AllByRecursion (IsThere images table (level_of k.body)) (children k.body)
+  pub all_there : (x : ℕ) (k : Image) → Has images table x k → AllByRecursion (IsThere images table (level_of k.body)) (children k.body)
   all_there x k has =
       all_map (λ pl. IsSome (one_below (level_of k.body) (there images table pl))) (IsThere images table (level_of k.body)) (children k.body)
       (there_from images table (level_of k.body)) (tiles.children x k has)

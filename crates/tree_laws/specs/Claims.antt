@@ -1,10 +1,11 @@
--- What the laws say of a table before and after a group.
-use Rattle.std.specs.Prelude.{◌≡◌, ◌≢◌, ◌↔◌, ℕ, List, [], ◌∷◌, Some}
+-- What the laws say of a table before and after a group, and of a path in it.
+use Rattle.std.specs.Prelude.{◌≡◌, ◌≢◌, ◌↔◌, ℕ, true, List, [], ◌∷◌, ◌++◌, Some, Contains}
 use Rattle.std.specs.List.{AllByRecursion}
 use Rattle.tm_data.specs.declared.transaction.Page.{Page}
 use Rattle.tm_data.specs.declared.row.Row.{Row}
-use Rattle.page_model.specs.Tree.{Images}
-use Rattle.page_model.specs.Tiling.{HasRow, blank_page}
+use Rattle.tm_data.specs.declared.image.Image.{Image}
+use Rattle.page_model.specs.Tree.{Images, level_of, may_hold}
+use Rattle.page_model.specs.Tiling.{Has, HasRow, rows_of, blank_page}
 
 -- The table has the same rows.
 abbrev pub SameRows : Images → Images → ℕ → Type 0
@@ -25,3 +26,16 @@ Differ (f ∷ fs) = AllByRecursion (λ (g : Page). f.0 ≢ g.0) fs × Differ fs
 pub record AreFresh (images : Images) (fresh : List Page) : Type 0 where
   pub blank : AllByRecursion (λ (f : Page). images f.0 ≡ Some (blank_page f)) fresh
   pub differ : Differ fresh
+
+-- A path ends at a leaf that may hold the key, the only one that may; and a row of that key is in the table exactly
+-- if it is in this leaf.
+pub record LeadsToItsRow (images : Images) (table : ℕ) (key : List ℕ) (path : List Page) : Type 0 where
+  pub front : List Page
+  pub page : Page
+  pub leaf : Image
+  pub ends : path ≡ front ++ page ∷ []
+  pub has : Has images table page.0 leaf
+  pub level : level_of leaf.body ≡ 0
+  pub holds : may_hold leaf.body key ≡ true
+  pub only : (p : ℕ) (other : Image) → Has images table p other → level_of other.body ≡ 0 → may_hold other.body key ≡ true → p ≡ page.0
+  pub rows : (row : Row) → row.key ≡ key → HasRow images table row ↔ Contains (rows_of leaf.body) row

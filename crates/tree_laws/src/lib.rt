@@ -5,7 +5,7 @@
 //! function that does nothing: a caller that calls it has the law among its facts.
 #![tactic(auto)]
 
-ghost use Rattle.std.specs.Prelude.{◌≡◌, ◌≤◌, ◌<◌, ℕ, List, Ok, length};
+ghost use Rattle.std.specs.Prelude.{◌≡◌, ◌≢◌, ◌≤◌, ◌<◌, ℕ, List, Ok, length};
 ghost use Rattle.std.specs.List.{AllByRecursion};
 ghost use Rattle.std.specs.Ordering.{nat_cmp};
 ghost use Rattle.std.specs.Cmp.Lexicographic.{slice_cmp};
@@ -18,7 +18,7 @@ ghost use Rattle.page_model.specs.Tree.{Images, path_of};
 ghost use Rattle.page_model.specs.Splits.{Halves, images_on, plan_of};
 ghost use Rattle.page_model.specs.Sound.{IsSoundRow};
 ghost use Rattle.page_model.specs.Tiling.{Tiles, IsMap, Fits, FitInTurn, PutsRow, Splits, SplitsRoot, after, after_all};
-ghost use Rattle.tree_laws.specs.Claims.{SameRows, SetsRow, AreFresh};
+ghost use Rattle.tree_laws.specs.Claims.{SameRows, SetsRow, AreFresh, LeadsToItsRow};
 
 /// Tiling is local: where a set of images tiles a table and a group fits the images that it names, the
 /// images after the group tile the table.
@@ -87,4 +87,32 @@ pub fn a_plan_sets_the_map()
         → AllByRecursion (λ (i : Image). i.stamp.0 < first) (images_on images path)
         → plan_of images path row fresh first ≡ Ok groups → IsMap images table m
         → IsMap (after_all images groups first) table (insert m row.key row) }
+{}
+
+/// A group that fits one table leaves another one as it was: where the images tiled it, those after the
+/// group do, and it has the same rows.
+pub fn other_tables_stay()
+    ensures { (images : Images) (stamp : ℕ) (group : List Record) (table other : ℕ)
+        → other ≢ table → Fits images stamp group table → Tiles images other
+        → Tiles (after images group stamp) other × SameRows images (after images group stamp) other }
+{}
+
+/// The same of groups that fit one table one after another.
+pub fn other_tables_stay_in_turn()
+    ensures { (images : Images) (stamp : ℕ) (groups : List (List Record)) (table other : ℕ)
+        → other ≢ table → FitInTurn images stamp groups table → Tiles images other
+        → Tiles (after_all images groups stamp) other × SameRows images (after_all images groups stamp) other }
+{}
+
+/// Where images tile a table, the path of a key ends at the one leaf that may hold the key, and a row of
+/// that key is in the table exactly if it is in this leaf.
+pub fn a_path_leads_to_its_row()
+    ensures { (images : Images) (table : ℕ) (key : List ℕ) (path : List Page)
+        → Tiles images table → path_of images table key ≡ Ok path → LeadsToItsRow images table key path }
+{}
+
+/// Where images tile a table, there is the finite map of its rows by their keys.
+pub fn a_tiled_table_is_a_map()
+    ensures { (images : Images) (table : ℕ) → Tiles images table
+        → (m : FinMap (slice_cmp nat_cmp) Row) × IsMap images table m }
 {}
