@@ -21,3 +21,13 @@ pub mod PlanLaw
 pub mod OtherTables
 pub mod LeafOfKey
 pub mod TableMap
+pub mod ReachLemmas
+pub mod ReachTiles
+pub mod ReachStrays
+pub mod ReachParts
+pub mod ReachPlan
+pub mod ReachGroups
+pub mod ReachLeaves
+pub mod ReachLaw
+pub mod ReachAlone
+pub mod FirstImages

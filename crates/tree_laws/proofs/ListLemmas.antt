@@ -42,3 +42,11 @@ in_from xs x c = in_at xs x c.0 c.1 c.2
 pub in_to : {A : Type 0} (xs : List A) (x : A) → IsIn x xs → Contains xs x
 in_to [] x h = absurd h
 in_to (y ∷ ys) x h = elim h [ inl e ↦ (0, omega arith, e) | inr k ↦ (let c = in_to ys x k in (suc c.0, omega (arith, c.1), c.2)) ]
+
+pub in_front : {A : Type 0} (xs ys : List A) (x : A) → IsIn x xs → IsIn x (xs ++ ys)
+in_front [] ys x h = absurd h
+in_front (z ∷ zs) ys x h = elim h [ inl e ↦ inl e | inr k ↦ inr (in_front zs ys x k) ]
+
+pub in_back : {A : Type 0} (xs ys : List A) (x : A) → IsIn x ys → IsIn x (xs ++ ys)
+in_back [] ys x h = h
+in_back (z ∷ zs) ys x h = inr (in_back zs ys x h)

@@ -30,11 +30,11 @@ of_itself table = grind (arith, nat_tests)
 
 -- ---- a page that a group names is of another table, before and after
 
-abbrev Foreign : ℕ → Option Image → Type 0
+abbrev pub Foreign : ℕ → Option Image → Type 0
 Foreign other o = (i : Image) → o ≡ Some i → is_of other i.body ≡ false
 
 -- a page is left as it was, or was of another table and is
-abbrev Stays : Images → Images → ℕ → ℕ → Type 0
+abbrev pub Stays : Images → Images → ℕ → ℕ → Type 0
 Stays images images' other x = (images' x ≡ images x) ⊎ (Foreign other (images x) × Foreign other (images' x))
 
 -- what a record changes is of another table, before and after
@@ -192,7 +192,7 @@ module _ (images : Images) (stamp : ℕ) (group : List Record) (table other : �
       (three_stay images stamp other over_record (Format left (record { 0 = 0 }) h.left) (Format right (record { 0 = 0 }) h.right) covers
       (formats images stamp table other left h.left differ s.blank_left root_left_of) (formats images stamp table other right h.right differ s.blank_right root_right_of))
 
-fits_stays : (images : Images) (stamp : ℕ) (group : List Record) (table other : ℕ) → other ≢ table → Fits images stamp group table → (x : ℕ) → Stays images (after images group stamp) other x
+pub fits_stays : (images : Images) (stamp : ℕ) (group : List Record) (table other : ℕ) → other ≢ table → Fits images stamp group table → (x : ℕ) → Stays images (after images group stamp) other x
 fits_stays images stamp group table other differ fits =
     elim fits [
       | inl put ↦ put_stays images stamp group table other put.0 put.1 differ put.2
@@ -225,7 +225,7 @@ module _ (images images' : Images) (other : ℕ) (stays : (x : ℕ) → Stays im
       let has = has_then place.page.0 t.image (record { held = t.at; of = t.of }) in
       there_to images' other level place (record { image = t.image; at = has.held; of = t.of; low = t.low; high = t.high; below = t.below })
 
-  still_tiles : Tiles images other → Tiles images' other
+  pub still_tiles : Tiles images other → Tiles images' other
   still_tiles tiles =
       let r = root_from images other tiles.root in
       record {
@@ -239,7 +239,7 @@ module _ (images images' : Images) (other : ℕ) (stays : (x : ℕ) → Stays im
         own = λ p i has. tiles.own p i (has_before p i has);
       }
 
-  still_rows : SameRows images images' other
+  pub still_rows : SameRows images images' other
   still_rows row = (
     (λ r. record { page = r.page; image = r.image; has = has_then r.page r.image r.has; contains = r.contains }),
     (λ r. record { page = r.page; image = r.image; has = has_before r.page r.image r.has; contains = r.contains }),

@@ -18,7 +18,7 @@ use Rattle.tree_laws.proofs.PlaceLemmas.{focus, child_holds}
 use Rattle.tree_laws.proofs.ThereLemmas.{IsThere, there_from, there_is, IsRoot, root_from, root_is}
 use Rattle.tree_laws.proofs.ChainLemmas.{Chain}
 
-in_middle : {A : Type 0} (xs : List A) (x : A) (ys : List A) → IsIn x (xs ++ x ∷ ys)
+pub in_middle : {A : Type 0} (xs : List A) (x : A) (ys : List A) → IsIn x (xs ++ x ∷ ys)
 in_middle [] x ys = inl refl
 in_middle (z ∷ zs) x ys = inr (in_middle zs x ys)
 

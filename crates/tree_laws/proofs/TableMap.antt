@@ -12,7 +12,7 @@ use Rattle.key_fences.specs.Fences.{is_within}
 use Rattle.page_model.specs.Tree.{Images, Place, level_of, high_of, is_of, may_hold, children, child_for, there, one_below}
 use Rattle.page_model.specs.Sound.{IsSound}
 use Rattle.page_model.specs.Tiling.{Has, Tiles, HasRow, IsMap, rows_of}
-use Rattle.tree_laws.proofs.ListLemmas.{IsIn, all_map, all_back, in_from, in_to}
+use Rattle.tree_laws.proofs.ListLemmas.{IsIn, all_map, all_back, in_from, in_to, in_front, in_back}
 use Rattle.tree_laws.proofs.SetLemmas.{one_row}
 use Rattle.tree_laws.proofs.PlaceLemmas.{focus, child_holds}
 use Rattle.tree_laws.proofs.ThereLemmas.{IsThere, there_is, IsRoot, root_from, one_image}
@@ -31,14 +31,6 @@ opened (Some body) rows = rows body
 abbrev collected : (Place → List Row) → List Place → List Row
 collected rows [] = []
 collected rows (p ∷ ps) = rows p ++ collected rows ps
-
-in_front : (xs ys : List Row) (row : Row) → IsIn row xs → IsIn row (xs ++ ys)
-in_front [] ys row h = absurd h
-in_front (x ∷ xs) ys row h = elim h [ inl e ↦ inl e | inr k ↦ inr (in_front xs ys row k) ]
-
-in_back : (xs ys : List Row) (row : Row) → IsIn row ys → IsIn row (xs ++ ys)
-in_back [] ys row h = h
-in_back (x ∷ xs) ys row h = inr (in_back xs ys row h)
 
 collects : (rows : Place → List Row) (before : List Place) (place : Place) (after : List Place) (row : Row) → IsIn row (rows place) → IsIn row (collected rows (before ++ place ∷ after))
 collects rows [] place after row h = in_front (rows place) (collected rows after) row h

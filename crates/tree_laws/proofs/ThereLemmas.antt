@@ -26,7 +26,7 @@ pub record IsThere (images : Images) (table level : ℕ) (place : Place) : Type 
   pub high : high_of image.body ≡ place.high
   pub below : level_of image.body + 1 ≡ level
 
-some_of : {A : Type 0} (o : Option A) → IsSome o → (x : A) × (o ≡ Some x)
+pub some_of : {A : Type 0} (o : Option A) → IsSome o → (x : A) × (o ≡ Some x)
 some_of None h = cc
 some_of (Some x) h = (x, refl)
 
@@ -34,7 +34,7 @@ chosen : {A : Type 0} (b : Bool) (x y : A) → cond b (Some x) None ≡ Some y �
 chosen true x y h = (refl, cc)
 chosen false x y h = cc
 
-at_parts : (table : ℕ) (place : Place) (body : Body) → is_at table place body ≡ true → (is_of table body ≡ true) × (low_of body ≡ place.low) × (high_of body ≡ place.high)
+pub at_parts : (table : ℕ) (place : Place) (body : Body) → is_at table place body ≡ true → (is_of table body ≡ true) × (low_of body ≡ place.low) × (high_of body ≡ place.high)
 at_parts table place body h =
     let p = both (is_of table body && same_fence (low_of body) place.low) (same_fence (high_of body) place.high) h in
     let q = both (is_of table body) (same_fence (low_of body) place.low) p.0 in
@@ -45,11 +45,11 @@ at_from_parts table place body of low high =
     both_true (is_of table body && same_fence (low_of body) place.low) (same_fence (high_of body) place.high)
     (both_true (is_of table body) (same_fence (low_of body) place.low) of (is_same_as (low_of body) place.low low)) (is_same_as (high_of body) place.high high)
 
-body_is : (table : ℕ) (place : Place) (o : Option Image) (body : Body) → body_at table place o ≡ Some body → (i : Image) × (o ≡ Some i) × (i.body ≡ body) × (is_at table place i.body ≡ true)
+pub body_is : (table : ℕ) (place : Place) (o : Option Image) (body : Body) → body_at table place o ≡ Some body → (i : Image) × (o ≡ Some i) × (i.body ≡ body) × (is_at table place i.body ≡ true)
 body_is table place None body h = cc
 body_is table place (Some i) body h = let e = chosen (is_at table place i.body) i.body body h in (i, refl, e.1, e.0)
 
-below_is : (level : ℕ) (o : Option Body) (body : Body) → one_below level o ≡ Some body → (o ≡ Some body) × (level_of body + 1 ≡ level)
+pub below_is : (level : ℕ) (o : Option Body) (body : Body) → one_below level o ≡ Some body → (o ≡ Some body) × (level_of body + 1 ≡ level)
 below_is level None body h = cc
 below_is level (Some b) body h =
     let e = chosen (nat_eq (level_of b + 1) level) b body h in
@@ -71,7 +71,7 @@ there_from images table level place h =
       below = ap (λ (x : Body). level_of x + 1) i.2 ∙ b.1;
     }
 
-some_is : {A : Type 0} (o : Option A) (x : A) → o ≡ Some x → IsSome o
+pub some_is : {A : Type 0} (o : Option A) (x : A) → o ≡ Some x → IsSome o
 some_is None x e = cc
 some_is (Some y) x e = refl
 

@@ -13,6 +13,11 @@ use Rattle.tree_laws.proofs.ListLemmas.{all_map, all_back}
 use Rattle.tree_laws.proofs.PlaceLemmas.{focus}
 use Rattle.tree_laws.proofs.ThereLemmas.{IsThere, there_from, there_is, root_from, root_is}
 
+pub level_limited : (body : Body) → IsSound body → level_of body ≤ 5
+level_limited Blank ok = omega arith
+level_limited (Leaf t low high rows) ok = omega arith
+level_limited (Inner t level low high first entries) ok = ok.parts.3
+
 module _ (images : Images) (table : ℕ) (key : List ℕ) (tiles : Tiles images table) where
   abbrev Way : ℕ → Body → Type 0
   Way n body = (pages : List Page) × (path_below images table key n body ≡ Ok pages) × (length pages ≡ n)
@@ -44,11 +49,6 @@ module _ (images : Images) (table : ℕ) (key : List ℕ) (tiles : Tiles images 
       let lower : level_of here.image.body ≡ n = (let b = here.below in omega (arith, b, lev)) in
       goes n level place here.image.body (there_is images table level place here)
       (way_by n here.image.body here.of (tiles.sound place.page.0 here.image has) lower (all_there place.page.0 here.image has))
-
-  level_limited : (body : Body) → IsSound body → level_of body ≤ 5
-  level_limited Blank ok = omega arith
-  level_limited (Leaf t low high rows) ok = omega arith
-  level_limited (Inner t level low high first entries) ok = ok.parts.3
 
   pub way : (path : List Page) × (path_of images table key ≡ Ok path) × (length path ≤ 6)
   way =

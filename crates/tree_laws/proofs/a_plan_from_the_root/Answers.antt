@@ -1,0 +1,7 @@
+-- a_plan_from_the_root/Answers.antt
+use Rattle.tree_laws.proofs.ReachLaw.{plan_reached}
+use Rattle.tree_laws.proofs.a_plan_from_the_root.Goals as goal
+
+pub returns : goal.returns
+returns c = λ images table first row path fresh groups t found sound are_fresh old made.
+    plan_reached images table first row path fresh groups (record { reached = t; found = found; sound = sound; are_fresh = are_fresh; old = old; made = made })
