@@ -4,3 +4,4 @@ pub mod Tree
 pub mod Splits
 pub mod Sound
 pub mod Tiling
+pub mod Pool
