@@ -25,10 +25,10 @@ def checksum(work, what, rounds):
     return int(subprocess.run([PROGRAM, work, str(what), str(rounds)], capture_output=True, check=True).stdout)
 
 
-def seconds(work, what, rounds):
-    """The least time of some runs of so many rounds."""
+def seconds(work, what, rounds, runs=RUNS):
+    """The least time of so many runs of so many rounds."""
     least = None
-    for _ in range(RUNS):
+    for _ in range(runs):
         begun = time.perf_counter()
         run = subprocess.run([PROGRAM, work, str(what), str(rounds)], stdout=subprocess.DEVNULL)
         taken = time.perf_counter() - begun
@@ -38,9 +38,9 @@ def seconds(work, what, rounds):
     return least
 
 
-def a_round(work, what, rounds):
+def a_round(work, what, rounds, runs=RUNS):
     """Seconds a round, without what is made before the first one."""
-    return max(seconds(work, what, rounds) - seconds(work, what, 0), 1e-9) / rounds
+    return max(seconds(work, what, rounds, runs) - seconds(work, what, 0, runs), 1e-9) / rounds
 
 
 def compare(step, things, few, many, works):

@@ -1,5 +1,7 @@
 //! Why a work ended before its last round.
-use std::alloc::AllocError;
+use page_redo::RedoError;
+use row_tree::{FindError, PlanError};
+use std::alloc::{AllocError, AllocFailed};
 use tm_base::{LengthError, NoMemory};
 use version_chain::{AddError, VersionError};
 use wire_fields::ReadError;
@@ -21,6 +23,12 @@ impl From<NoMemory> for Failure {
 
 impl From<AllocError> for Failure {
     fn from(_: AllocError) -> Failure {
+        Failure::NoMemory
+    }
+}
+
+impl<T: Drop> From<AllocFailed<T>> for Failure {
+    fn from(_: AllocFailed<T>) -> Failure {
         Failure::NoMemory
     }
 }
@@ -56,6 +64,33 @@ impl From<VersionError> for Failure {
     fn from(error: VersionError) -> Failure {
         match error {
             VersionError::NoMemory => Failure::NoMemory,
+            _ => Failure::Refused,
+        }
+    }
+}
+
+impl From<RedoError> for Failure {
+    fn from(error: RedoError) -> Failure {
+        match error {
+            RedoError::NoMemory => Failure::NoMemory,
+            _ => Failure::Refused,
+        }
+    }
+}
+
+impl From<FindError> for Failure {
+    fn from(error: FindError) -> Failure {
+        match error {
+            FindError::NoMemory => Failure::NoMemory,
+            _ => Failure::Refused,
+        }
+    }
+}
+
+impl From<PlanError> for Failure {
+    fn from(error: PlanError) -> Failure {
+        match error {
+            PlanError::NoMemory => Failure::NoMemory,
             _ => Failure::Refused,
         }
     }

@@ -12,6 +12,8 @@ mod locks;
 mod log;
 mod pages;
 mod sample;
+mod shelf;
+mod tree;
 mod work;
 
 use failure::Failure;

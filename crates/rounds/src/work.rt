@@ -8,6 +8,7 @@ use crate::locks::{ask, release, request};
 use crate::log::{acknowledge, append, fetch};
 use crate::pages::{add, read};
 use crate::sample::{Sample, bytes};
+use crate::tree::{Order, look, put};
 use std::alloc::Global;
 use tm_base::Message;
 
@@ -34,6 +35,10 @@ pub enum Work {
     AddRecord(u32),
     /// The newest version of a page is read, which so many records make.
     ReadPage(u32),
+    /// The next row of an order is put into a table, after so many.
+    Put(Order, u32),
+    /// A row of a table with so many is looked for.
+    Look(Order, u32),
 }
 
 fn number(word: &str) -> Option<u32> {
@@ -57,6 +62,10 @@ impl Work {
             "ask" => Some(Work::Ask(number(what)?)),
             "add-record" => Some(Work::AddRecord(number(what)?)),
             "read-page" => Some(Work::ReadPage(number(what)?)),
+            "put-rising" => Some(Work::Put(Order::Rising, number(what)?)),
+            "put-random" => Some(Work::Put(Order::Random, number(what)?)),
+            "find-rising" => Some(Work::Look(Order::Rising, number(what)?)),
+            "find-random" => Some(Work::Look(Order::Random, number(what)?)),
             _ => None,
         }
     }
@@ -145,5 +154,7 @@ pub fn done(alloc: Global, work: Work, rounds: u32) -> Result<u64, Failure> {
         Work::Ask(pages) => Ok(ask(alloc, pages, rounds)? as u64),
         Work::AddRecord(length) => add(alloc, length, rounds),
         Work::ReadPage(length) => read(alloc, length, rounds),
+        Work::Put(order, rows) => Ok(put(alloc, order, rows, rounds)? as u64),
+        Work::Look(order, rows) => Ok(look(alloc, order, rows, rounds)? as u64),
     }
 }
