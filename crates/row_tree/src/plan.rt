@@ -4,6 +4,7 @@ ghost use Rattle.key_fences.specs.Fences.{key_less};
 ghost use Rattle.page_model.specs.Tree.{level_of};
 ghost use Rattle.page_model.specs.Sound.{AreSound, IsSound};
 ghost use Rattle.page_model.specs.Splits.{groups_below, groups_of_root, plan_of, plan_with};
+ghost use Rattle.row_tree.specs.Plans.{Fitting};
 ghost use Rattle.row_tree.specs.Inside.{spot_in, images_at, GivesPlan, IsEnough, AreSoundAt};
 
 use crate::fence::{level_of, table_of};
@@ -181,16 +182,8 @@ fn plan_root(
     Ok(plan)
 }
 
-/// The groups that put a row, along the path that [`find`](crate::find) gives for the row's key, with
-/// stamps from `first` on, at most `2^63`.
-///
-/// A row that doesn't fit splits its leaf, and each page above that has no room for one more entry
-/// splits too. The splits come first, one group each, from the top down; then the row's own group. Fresh
-/// pages are used in order, one for each page that splits and two for a root.
-///
-/// Refuses `Height` exactly where a root of level 5 would split, then `Fresh` exactly where fresh pages
-/// are wanting, with their number. Each page that is looked at is looked at once.
-pub fn plan_put<P: Pages>(
+// The groups that put a row along a path.
+fn planned<P: Pages>(
     alloc: Global,
     pages: &P,
     path: &Path,
@@ -206,4 +199,33 @@ pub fn plan_put<P: Pages>(
         return plan_root(alloc, row, full.as_slice(), fresh, first);
     };
     plan_below(alloc, row, above, full.as_slice(), fresh, first)
+}
+
+/// The groups that put a row, along the path that [`find`](crate::find) gives for the row's key, with
+/// stamps from `first` on, at most `2^63`.
+///
+/// A row that doesn't fit splits its leaf, and each page above that has no room for one more entry
+/// splits too. The splits come first, one group each, from the top down; then the row's own group. Fresh
+/// pages are used in order, one for each page that splits and two for a root.
+///
+/// Where a set of images tiles the table, and `pages` gives the path's images as that set has them, the groups
+/// fit, each the images after the ones before it; after the last one the images tile the table, the row is
+/// there, and every other row is as before.
+///
+/// Refuses `Height` exactly where a root of level 5 would split, then `Fresh` exactly where fresh pages
+/// are wanting, with their number. Each page that is looked at is looked at once.
+pub fn plan_put<P: Pages>(
+    alloc: Global,
+    pages: &P,
+    path: &Path,
+    row: &Row,
+    fresh: &[Page],
+    first: Stamp,
+) -> Result<Plan, PlanError>
+    ensures exact { AreSound (P.images pages.now) → length path.now ≤ 6 → first.0 ≤ 2 ^ 63 → GivesPlan result
+        (plan_of (P.images pages.now) path.now row.entry.now fresh.now first.0) }
+    ensures fits { AreSound (P.images pages.now) → first.0 ≤ 2 ^ 63
+        → Fitting result (P.images pages.now) path.now row.entry.now fresh.now first.0 }
+{
+    planned(alloc, pages, path, row, fresh, first)
 }
