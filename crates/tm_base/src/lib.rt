@@ -13,6 +13,7 @@ mod message;
 mod page_size;
 mod reply;
 mod step;
+mod steps;
 #[cfg(test)]
 mod tests;
 
@@ -25,6 +26,7 @@ pub use message::{
 pub use page_size::{room, size};
 pub use reply::{RecoveryWait, Reply};
 pub use step::{Line, Outcome, Pair, PairList, Step};
+pub use steps::Steps;
 pub use tm_data::{
     Before, Body, ByteList, Child, ChildList, Group, GroupList, Image, ItemList, Key, KeyPlace,
     Keyed, KeyedList, LengthError, MAX_IMAGE, MAX_KEY, MAX_STAMP, MAX_VALUE, Mem, NoMemory, Page,
