@@ -1,6 +1,6 @@
 -- The truth value of a step says whether it changed the state.
-use Rattle.std.proofs.Common.{◌≡◌, ◌<◌, ◌≤◌, ◌+◌, ◌-◌, ◌^◌, ℕ, Bool, true, false, List, [], ◌∷◌, Option, Some, None, refl, ap, sym, subst, ◌∙◌, cond, arith}
-use Rattle.std.specs.Prelude.{nat_eq, nat_lt, not, ◌&&◌, ◌||◌, max, map, length, filter_map}
+use Rattle.std.proofs.Common.{◌≡◌, ◌<◌, ◌+◌, ◌-◌, ◌^◌, ℕ, Bool, true, false, List, [], ◌∷◌, Option, Some, None, refl, ap, sym, ◌∙◌, arith}
+use Rattle.std.specs.Prelude.{nat_eq, nat_lt, not, ◌&&◌, ◌||◌, max, length}
 use Rattle.std.specs.List.{cons_option}
 use Rattle.std.specs.Option.{option_map}
 use Rattle.std.proofs.lemmas.Bool.Decides.{nat_tests}
@@ -19,7 +19,7 @@ use Rattle.lock_model.specs.declared.writer.Life.{Life}
 use Rattle.lock_model.specs.declared.writer.WriterEntry.{WriterEntry}
 use Rattle.lock_model.specs.declared.writer.WriterStatus.{WriterStatus}
 use Rattle.lock_model.specs.declared.writer.WriterStatus.TheVariants.{Live, Closed, Recovered}
-use Rattle.lock_model.specs.State.{State, start, at, put, page_in, holder_of, is_holder, is_live, leased, left, first_of}
+use Rattle.lock_model.specs.State.{State, start, at, page_in, holder_of, is_holder, is_live, leased, left}
 use Rattle.lock_model.specs.Step as does
 use Rattle.lock_model.specs.Step.{Effect, step, heard}
 use Rattle.lock_model.specs.Runs.{after, TellsChange}

@@ -1,40 +1,24 @@
 -- What holds of the pages in every run.
-use Rattle.std.proofs.Common.{◌≡◌, ◌<◌, ◌≤◌, ◌+◌, ℕ, Bool, true, false, List, [], ◌∷◌, ◌++◌, Option, Some, None, refl, ap, sym, subst, ◌∙◌, arith, inl, inr}
-use Rattle.std.specs.Prelude.{◌⊎◌, length, max}
+use Rattle.std.proofs.Common.{◌≡◌, ◌<◌, ◌≤◌, ◌+◌, ℕ, List, [], ◌∷◌, ◌++◌, Option, refl, ap, sym, subst, ◌∙◌, arith, inl, inr}
+use Rattle.std.specs.Prelude.{◌⊎◌, length}
 use Rattle.std.specs.List.{AllByRecursion, Contains}
 use Rattle.std.proofs.lemmas.List.Elements.{All-from_recursion, All-contains, Contains-append_cases}
 use Rattle.tm_data.specs.declared.transaction.Page.{Page}
 use Rattle.tm_data.specs.declared.transaction.Writer.{Writer}
 use Rattle.tm_data.specs.declared.vector.VectorEntry.{VectorEntry}
-use Rattle.tm_data.specs.Vectors.{IsVector, Covers, joined, stamp_of}
+use Rattle.tm_data.specs.Vectors.{IsVector, Covers}
 use Rattle.tm_data.proofs.VectorLemmas.{joined_ascends, joined_stamp}
 use Rattle.tm_base.specs.declared.message.Message.{Message}
 use Rattle.tm_base.specs.declared.message.Note.{Note}
 use Rattle.tm_base.specs.declared.message.Note.TheVariants as note
 use Rattle.lock_model.specs.declared.page.PageEntry.{PageEntry}
-use Rattle.lock_model.specs.State.{State, start, page_in, unused_page, leased, left}
+use Rattle.lock_model.specs.State.{State, start, page_in}
 use Rattle.lock_model.specs.Step.{step}
-use Rattle.lock_model.specs.Runs.{after, sent, MovesOn, OneHolder, EpochRises, SameLease, SameGrant, GrantsAgree, leaves_of, Content, content, or_left, last_left, nothing_left, HasLeft, GrantsHaveLeft, HasVector, AreVectors, VectorRises}
-use Rattle.lock_model.proofs.PageLemmas.{Stays, Leases, Leaves, Move, Tells, Carries, PageStep, Unused, step_page}
-
--- ---- the pages that aren't given out stay unused
-
-unused_by : (o : Option PageEntry) (C : List VectorEntry → Type 0) (q next : ℕ) (old new : PageEntry) → next ≤ q → old ≡ unused_page → Move o C q next old new → new ≡ unused_page
-unused_by o C q next old new high was (inl m) = m.is ∙ was
-unused_by o C q next old new high was (inr (inl m)) = absurd (omega (arith, m.below))
-unused_by o C q next old new high was (inr (inr m)) = absurd (m.held (ap (λ (e : PageEntry). e.holders) was))
-
-pub unused_step : (s : State) (m : Message) → Unused s → Unused (step s m).0
-unused_step s m u q high =
-    let r = step_page s m u in
-    unused_by (leaves_of s m.note q) (Carries m.note) q (step s m).0.next_fresh (page_in s q) (page_in (step s m).0 q) high (u q (omega (arith, r.next))) (r.moves q)
-
-pub unused_after : (ms : List Message) (s : State) → Unused s → Unused (after s ms)
-unused_after [] s u = u
-unused_after (m ∷ ms) s u = unused_after ms (step s m).0 (unused_step s m u)
-
-pub unused_start : Unused start
-unused_start q high = refl
+use Rattle.lock_model.specs.Moves.{leaves_of}
+use Rattle.lock_model.specs.Runs.{after, sent, MovesOn, OneHolder, EpochRises, SameLease, SameGrant, GrantsAgree, Content, content, or_left, last_left, nothing_left, HasLeft, GrantsHaveLeft, HasVector, AreVectors, VectorRises}
+use Rattle.lock_model.specs.Facts.{Facts}
+use Rattle.lock_model.proofs.FactLemmas.{facts_step, facts_start}
+use Rattle.lock_model.proofs.PageMoves.{Move, Tells, Carries, step_page, facts_after}
 
 -- ---- one holder
 
@@ -43,14 +27,14 @@ alone_by o C q next old new h (inl m) = subst (λ (e : PageEntry). length e.hold
 alone_by o C q next old new h (inr (inl m)) = subst (λ (e : PageEntry). length e.holders ≤ 1) (sym m.is) (omega arith)
 alone_by o C q next old new h (inr (inr m)) = subst (λ (e : PageEntry). length e.holders ≤ 1) (sym m.is) (omega arith)
 
-alone_after : (ms : List Message) (s : State) (q : ℕ) → Unused s → length (page_in s q).holders ≤ 1 → length (page_in (after s ms) q).holders ≤ 1
+alone_after : (ms : List Message) (s : State) (q : ℕ) → Facts s → length (page_in s q).holders ≤ 1 → length (page_in (after s ms) q).holders ≤ 1
 alone_after [] s q u h = h
 alone_after (m ∷ ms) s q u h =
-    alone_after ms (step s m).0 q (unused_step s m u)
+    alone_after ms (step s m).0 q (facts_step s m u)
     (alone_by (leaves_of s m.note q) (Carries m.note) q (step s m).0.next_fresh (page_in s q) (page_in (step s m).0 q) h ((step_page s m u).moves q))
 
 pub one_holder : (inputs : List Message) (page : ℕ) → OneHolder inputs page
-one_holder inputs page = alone_after inputs start page unused_start (omega arith)
+one_holder inputs page = alone_after inputs start page facts_start (omega arith)
 
 -- ---- epochs
 
@@ -70,16 +54,16 @@ moves_both a b c h k = record {
   holders = λ same. joined_holders a.holders b.holders c.holders (h.holders (omega (arith, h.epoch, k.epoch))) (k.holders (omega (arith, h.epoch, k.epoch)));
 }
 
-pub step_moves_on : (s : State) (m : Message) (q : ℕ) → Unused s → MovesOn (page_in s q) (page_in (step s m).0 q)
+pub step_moves_on : (s : State) (m : Message) (q : ℕ) → Facts s → MovesOn (page_in s q) (page_in (step s m).0 q)
 step_moves_on s m q u = moves_on (leaves_of s m.note q) (Carries m.note) q (step s m).0.next_fresh (page_in s q) (page_in (step s m).0 q) ((step_page s m u).moves q)
 
-pub after_moves_on : (ms : List Message) (s : State) (q : ℕ) → Unused s → MovesOn (page_in s q) (page_in (after s ms) q)
+pub after_moves_on : (ms : List Message) (s : State) (q : ℕ) → Facts s → MovesOn (page_in s q) (page_in (after s ms) q)
 after_moves_on [] s q u = record { epoch = omega arith; holders = λ same. inl refl }
 after_moves_on (m ∷ ms) s q u =
-    moves_both (page_in s q) (page_in (step s m).0 q) (page_in (after s (m ∷ ms)) q) (step_moves_on s m q u) (after_moves_on ms (step s m).0 q (unused_step s m u))
+    moves_both (page_in s q) (page_in (step s m).0 q) (page_in (after s (m ∷ ms)) q) (step_moves_on s m q u) (after_moves_on ms (step s m).0 q (facts_step s m u))
 
 pub epoch_rises : (inputs later : List Message) (page : ℕ) → EpochRises inputs later page
-epoch_rises inputs later page = after_moves_on later (after start inputs) page (unused_after inputs start unused_start)
+epoch_rises inputs later page = after_moves_on later (after start inputs) page (facts_after inputs start facts_start)
 
 -- ---- what holds of all messages of a list
 
@@ -125,13 +109,13 @@ later_told s page epoch o (note.Grant w p e stamp tags vector) t = λ at_page.
     omega (arith, o.least, epochs, differs)
 later_told s page epoch o other t = tt
 
-later_sent : (ms : List Message) (s : State) (page epoch : ℕ) → Unused s → IsOver epoch (page_in s page) → AllByRecursion (λ g. Later page epoch g.note) (sent s ms)
+later_sent : (ms : List Message) (s : State) (page epoch : ℕ) → Facts s → IsOver epoch (page_in s page) → AllByRecursion (λ g. Later page epoch g.note) (sent s ms)
 later_sent [] s page epoch u o = tt
 later_sent (m ∷ ms) s page epoch u o =
     let next : IsOver epoch (page_in (step s m).0 page) = over_moves epoch (page_in s page) (page_in (step s m).0 page) o (step_moves_on s m page u) in
     all_join (λ g. Later page epoch g.note) (step s m).2 (sent (step s m).0 ms)
     (all_each (λ g. Tells (step s m).0 g.note) (λ g. Later page epoch g.note) (λ g. later_told (step s m).0 page epoch next g.note) (step s m).2 (step_page s m u).grants)
-    (later_sent ms (step s m).0 page epoch (unused_step s m u) next)
+    (later_sent ms (step s m).0 page epoch (facts_step s m u) next)
 
 -- The grants of a page at that epoch are this one.
 abbrev SameAs : ℕ → Writer → PageEntry → Note → Type 0
@@ -155,7 +139,7 @@ same_never : (page epoch : ℕ) (w : Writer) (x : PageEntry) → x.epoch ≡ epo
 same_never page epoch w x is (note.Grant v p e stamp tags vector) later = λ at_page at_epoch. absurd (omega (arith, later at_page, is))
 same_never page epoch w x is other later = tt
 
-same_by : (ms : List Message) (s : State) (m : Message) (page : ℕ) (w : Writer) (hs : List Writer) (x : PageEntry) → Unused s → page_in s page ≡ x → x.holders ≡ w ∷ hs
+same_by : (ms : List Message) (s : State) (m : Message) (page : ℕ) (w : Writer) (hs : List Writer) (x : PageEntry) → Facts s → page_in s page ≡ x → x.holders ≡ w ∷ hs
     → Move (leaves_of s m.note page) (Carries m.note) page (step s m).0.next_fresh (page_in s page) (page_in (step s m).0 page)
     → (page_in (step s m).0 page ≡ x → AllByRecursion (λ g. SameAs page w x g.note) (sent (step s m).0 ms)) → AllByRecursion (λ g. SameAs page w x g.note) (sent s (m ∷ ms))
 same_by ms s m page w hs x u here held (inl move) rest =
@@ -170,15 +154,15 @@ same_by ms s m page w hs x u here held (inr (inr move)) rest =
     all_each (λ g. Later page x.epoch g.note) (λ g. SameAs page w x g.note) (λ g. same_never page x.epoch w x refl g.note) (sent s (m ∷ ms))
     (all_join (λ g. Later page x.epoch g.note) (step s m).2 (sent (step s m).0 ms)
     (all_each (λ g. Tells (step s m).0 g.note) (λ g. Later page x.epoch g.note) (λ g. later_told (step s m).0 page x.epoch over g.note) (step s m).2 (step_page s m u).grants)
-    (later_sent ms (step s m).0 page x.epoch (unused_step s m u) over))
+    (later_sent ms (step s m).0 page x.epoch (facts_step s m u) over))
 
-same_sent : (ms : List Message) (s : State) (page : ℕ) (w : Writer) (hs : List Writer) (x : PageEntry) → Unused s → page_in s page ≡ x → x.holders ≡ w ∷ hs → AllByRecursion (λ g. SameAs page w x g.note) (sent s ms)
+same_sent : (ms : List Message) (s : State) (page : ℕ) (w : Writer) (hs : List Writer) (x : PageEntry) → Facts s → page_in s page ≡ x → x.holders ≡ w ∷ hs → AllByRecursion (λ g. SameAs page w x g.note) (sent s ms)
 same_sent [] s page w hs x u here held = tt
 same_sent (m ∷ ms) s page w hs x u here held =
-    same_by ms s m page w hs x u here held ((step_page s m u).moves page) (λ there. same_sent ms (step s m).0 page w hs x (unused_step s m u) there held)
+    same_by ms s m page w hs x u here held ((step_page s m u).moves page) (λ there. same_sent ms (step s m).0 page w hs x (facts_step s m u) there held)
 
 -- two grants, of which one is told in this state
-told_agree : (s : State) (ms : List Message) (out : List Message) (n k : Note) → Unused s → AllByRecursion (λ g. Tells s g.note) out → Tells s n
+told_agree : (s : State) (ms : List Message) (out : List Message) (n k : Note) → Facts s → AllByRecursion (λ g. Tells s g.note) out → Tells s n
     → ((page : ℕ) (w : Writer) (hs : List Writer) (x : PageEntry) → page_in s page ≡ x → x.holders ≡ w ∷ hs → SameAs page w x k) → SameGrant n k
 told_agree s ms out (note.Grant w p e stamp tags vector) (note.Grant v q f t b y) u all told same =
     λ at_page at_epoch. same p.0 w told.0 (record { holders = w ∷ told.0; epoch = e; stamp = stamp; tags = tags; vector = vector }) told.1 refl (ap (λ (z : Page). z.0) (sym at_page)) (sym at_epoch)
@@ -192,14 +176,14 @@ same_turned (note.Grant w p e stamp tags vector) other h = tt
 same_turned one (note.Grant v q f t b y) h = tt
 same_turned one other h = tt
 
-pub grants_agree : (ms : List Message) (s : State) (g h : Message) → Unused s → Contains (sent s ms) g → Contains (sent s ms) h → SameGrant g.note h.note
+pub grants_agree : (ms : List Message) (s : State) (g h : Message) → Facts s → Contains (sent s ms) g → Contains (sent s ms) h → SameGrant g.note h.note
 grants_agree [] s g h u is_g is_h = absurd (omega (arith, is_g.1))
 grants_agree (m ∷ ms) s g h u is_g is_h =
     by (Contains-append_cases (step s m).2 (sent (step s m).0 ms) g is_g) (Contains-append_cases (step s m).2 (sent (step s m).0 ms) h is_h)
-    (λ a b. grants_agree ms (step s m).0 g h (unused_step s m u) a b)
+    (λ a b. grants_agree ms (step s m).0 g h (facts_step s m u) a b)
   where
-    next : Unused (step s m).0
-    next = unused_step s m u
+    next : Facts (step s m).0
+    next = facts_step s m u
 
     tells : AllByRecursion (λ x. Tells (step s m).0 x.note) (step s m).2
     tells = (step_page s m u).grants
@@ -228,10 +212,10 @@ move_content o C q next old new (inl m) = ap (or_left (content old)) m.none ∙ 
 move_content o C q next old new (inr (inl m)) = ap (or_left (content old)) m.none ∙ ap content (sym m.is)
 move_content o C q next old new (inr (inr m)) = ap (or_left (content old)) m.some
 
-left_after : (ms : List Message) (s : State) (q : ℕ) (c : Content) → Unused s → c ≡ content (page_in s q) → last_left s ms q c ≡ content (page_in (after s ms) q)
+left_after : (ms : List Message) (s : State) (q : ℕ) (c : Content) → Facts s → c ≡ content (page_in s q) → last_left s ms q c ≡ content (page_in (after s ms) q)
 left_after [] s q c u is = is
 left_after (m ∷ ms) s q c u is =
-    left_after ms (step s m).0 q (or_left c (leaves_of s m.note q)) (unused_step s m u)
+    left_after ms (step s m).0 q (or_left c (leaves_of s m.note q)) (facts_step s m u)
     (ap (λ (x : Content). or_left x (leaves_of s m.note q)) is
     ∙ move_content (leaves_of s m.note q) (Carries m.note) q (step s m).0.next_fresh (page_in s q) (page_in (step s m).0 q) ((step_page s m u).moves q))
 
@@ -246,10 +230,10 @@ has_left s l is other t = tt
 pub grants_have_left : (inputs : List Message) (m : Message) → GrantsHaveLeft inputs m
 grants_have_left inputs m =
     let s : State = after start inputs in
-    let u : Unused s = unused_after inputs start unused_start in
+    let u : Facts s = facts_after inputs start facts_start in
     let l : ℕ → Content = λ page. last_left start (inputs ++ m ∷ []) page nothing_left in
     all_each (λ g. Tells (step s m).0 g.note) (λ g. HasLeft l g.note)
-    (λ g. has_left (step s m).0 l (λ page. left_after (inputs ++ m ∷ []) start page nothing_left unused_start refl ∙ ap (λ (t : State). content (page_in t page)) (after_push inputs start m)) g.note)
+    (λ g. has_left (step s m).0 l (λ page. left_after (inputs ++ m ∷ []) start page nothing_left facts_start refl ∙ ap (λ (t : State). content (page_in t page)) (after_push inputs start m)) g.note)
     (step s m).2 (step_page s m u).grants
 
 -- ---- vectors
@@ -277,17 +261,17 @@ grows_by n o q next old new has one (inr (inr m)) =
 grows_both : (a b c : PageEntry) → Grows a b → Grows b c → Grows a c
 grows_both a b c h k = record { one = k.one; more = λ w. omega (arith, h.more w, k.more w) }
 
-grows_after : (ms : List Message) (s : State) (q : ℕ) → Unused s → AreVectors ms → IsVector (page_in s q).vector → Grows (page_in s q) (page_in (after s ms) q)
+grows_after : (ms : List Message) (s : State) (q : ℕ) → Facts s → AreVectors ms → IsVector (page_in s q).vector → Grows (page_in s q) (page_in (after s ms) q)
 grows_after [] s q u has one = record { one = one; more = λ w. omega arith }
 grows_after (m ∷ ms) s q u has one =
     let g : Grows (page_in s q) (page_in (step s m).0 q) =
     grows_by m.note (leaves_of s m.note q) q (step s m).0.next_fresh (page_in s q) (page_in (step s m).0 q) has.0 one ((step_page s m u).moves q) in
-    grows_both (page_in s q) (page_in (step s m).0 q) (page_in (after s (m ∷ ms)) q) g (grows_after ms (step s m).0 q (unused_step s m u) has.1 g.one)
+    grows_both (page_in s q) (page_in (step s m).0 q) (page_in (after s (m ∷ ms)) q) g (grows_after ms (step s m).0 q (facts_step s m u) has.1 g.one)
 
 pub vector_rises : (inputs later : List Message) (page : ℕ) → VectorRises inputs later page
 vector_rises inputs later page first then =
     let s : State = after start inputs in
-    let before = grows_after inputs start page unused_start first tt in (grows_after later s page (unused_after inputs start unused_start) then before.one).more
+    let before = grows_after inputs start page facts_start first tt in (grows_after later s page (facts_after inputs start facts_start) then before.one).more
 
 pub all_grants_agree : (inputs : List Message) (g h : Message) → GrantsAgree inputs g h
-all_grants_agree inputs g h is_g is_h = grants_agree inputs start g h unused_start is_g is_h
+all_grants_agree inputs g h is_g is_h = grants_agree inputs start g h facts_start is_g is_h

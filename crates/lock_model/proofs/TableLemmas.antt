@@ -1,6 +1,6 @@
 -- What is under a number of a table.
-use Rattle.std.proofs.Common.{◌≡◌, ℕ, suc, Bool, true, false, List, [], ◌∷◌, Option, Some, None, refl, ap, sym, subst, ◌∙◌, cond, arith}
-use Rattle.std.specs.Prelude.{nat_eq, map, if◌then◌else◌, length, ◌+◌, ◌≤◌}
+use Rattle.std.proofs.Common.{◌≡◌, ℕ, suc, Bool, true, false, List, [], ◌∷◌, Some, None, refl, ap, sym, cond, arith}
+use Rattle.std.specs.Prelude.{nat_eq, map, if◌then◌else◌, length, ◌+◌}
 use Rattle.std.specs.Option.{option_map}
 use Rattle.std.proofs.lemmas.Bool.Decides.{nat_tests}
 use Rattle.lock_model.specs.State.{at, put}

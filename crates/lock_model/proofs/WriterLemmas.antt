@@ -1,25 +1,23 @@
 -- How a step moves the writers.
-use Rattle.std.proofs.Common.{◌≡◌, ◌<◌, ◌≤◌, ◌+◌, ◌-◌, ◌^◌, ℕ, zero, suc, Bool, true, false, List, [], ◌∷◌, Option, Some, None, refl, ap, sym, subst, ◌∙◌, cond, arith, inl, inr}
-use Rattle.std.specs.Prelude.{◌⊎◌, nat_eq, nat_lt, nat_le, not, ◌&&◌, max, map, length}
+use Rattle.std.proofs.Common.{◌≡◌, ◌<◌, ◌≤◌, ◌+◌, ◌-◌, ◌^◌, ℕ, zero, suc, Bool, true, false, List, [], Option, Some, None, refl, ap, sym, subst, ◌∙◌, cond, arith, inl, inr}
+use Rattle.std.specs.Prelude.{◌⊎◌, nat_eq, nat_lt, not, ◌&&◌, length}
 use Rattle.std.specs.List.{AllByRecursion}
 use Rattle.std.proofs.lemmas.Bool.Decides.{nat_tests}
 use Rattle.tm_data.specs.declared.transaction.Page.{Page}
 use Rattle.tm_data.specs.declared.transaction.Txn.{Txn}
 use Rattle.tm_data.specs.declared.transaction.Writer.{Writer}
 use Rattle.tm_data.specs.declared.vector.VectorEntry.{VectorEntry}
-use Rattle.tm_base.specs.declared.message.Message.{Message}
 use Rattle.tm_base.specs.declared.message.Node.{Node}
 use Rattle.tm_base.specs.declared.message.Node.TheVariants.{Master}
 use Rattle.tm_base.specs.declared.message.Note.{Note}
 use Rattle.tm_base.specs.declared.message.Note.TheVariants as note
 use Rattle.tm_base.specs.declared.message.PageStamp.{PageStamp}
-use Rattle.lock_model.specs.declared.page.PageEntry.{PageEntry}
 use Rattle.lock_model.specs.declared.writer.Fresh.{Fresh}
 use Rattle.lock_model.specs.declared.writer.Life.{Life}
 use Rattle.lock_model.specs.declared.writer.WriterEntry.{WriterEntry}
 use Rattle.lock_model.specs.declared.writer.WriterStatus.{WriterStatus}
 use Rattle.lock_model.specs.declared.writer.WriterStatus.TheVariants.{Live, Closed, Recovered}
-use Rattle.lock_model.specs.State.{State, start, at, put, page_in, holder_of, is_live}
+use Rattle.lock_model.specs.State.{State, at, put, page_in, holder_of, is_live}
 use Rattle.lock_model.specs.Step as does
 use Rattle.lock_model.specs.Step.{Effect}
 use Rattle.lock_model.specs.Runs.{LogEnd, end_of, ended_at, IsSameWriter}
@@ -198,12 +196,12 @@ or_one : (ws : List (ℕ × WriterEntry)) (master n : ℕ) (o : Option WriterEnt
 or_one ws master n None earlier found h = past_one ws master n earlier (λ e there own. absurd (cc (found, there))) h
 or_one ws master n (Some e) earlier found h = here_one ws master n e (nat_eq e.master master) earlier found refl h
 
-latest_is : (ws : List (ℕ × WriterEntry)) (master n : ℕ) → LatestIs ws master n (does.latest ws master n)
+pub latest_is : (ws : List (ℕ × WriterEntry)) (master n : ℕ) → LatestIs ws master n (does.latest ws master n)
 latest_is ws master zero = λ v e least most found own. absurd (omega arith)
 latest_is ws master (suc n) = or_one ws master n (at ws (suc n)) (does.latest ws master n) refl (latest_is ws master n)
 
 -- a boot number above the latest is above all
-newest_by : (ws : List (ℕ × WriterEntry)) (master boot : ℕ) (life : Life) → Numbered ws → IsLatest ws master (length ws) life → life.boot < boot → (v : ℕ) (e : WriterEntry) → at ws v ≡ Some e → e.master ≡ master → e.boot < boot
+pub newest_by : (ws : List (ℕ × WriterEntry)) (master boot : ℕ) (life : Life) → Numbered ws → IsLatest ws master (length ws) life → life.boot < boot → (v : ℕ) (e : WriterEntry) → at ws v ≡ Some e → e.master ≡ master → e.boot < boot
 newest_by ws master boot life n l above v e found own = by (nat_lt v life.writer.0) refl
   where
     bounds : (1 ≤ v) × (v ≤ length ws)
@@ -379,7 +377,7 @@ nth_writer s writer e nth false true same found =
     still s (does.on_nth s writer e nth false true) refl refl (omega arith) ((e, found, ap (λ (n : ℕ). record { nth = n; page = e.fresh.page }) (sym (same refl))), tt)
 nth_writer s writer e nth false false same found = still s (does.on_nth s writer e nth false false) refl refl (omega arith) tt
 
-again_same : (nth last : ℕ) → (nat_eq nth last && not (nat_eq nth 0)) ≡ true → nth ≡ last
+pub again_same : (nth last : ℕ) → (nat_eq nth last && not (nat_eq nth 0)) ≡ true → nth ≡ last
 again_same nth last h = grind (arith, nat_tests)
 
 fresh_of_writer : (s : State) (writer : ℕ) (e : WriterEntry) (nth : ℕ) (b : Bool) → at s.writers writer ≡ Some e → WriterStep s (does.on_fresh_of s writer e nth b)

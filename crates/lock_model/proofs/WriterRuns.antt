@@ -1,6 +1,6 @@
 -- What holds of the writers in every run.
-use Rattle.std.proofs.Common.{◌≡◌, ◌<◌, ◌≤◌, ◌+◌, ℕ, Bool, true, false, List, [], ◌∷◌, ◌++◌, Option, Some, None, refl, ap, sym, subst, ◌∙◌, cond, arith, inl, inr}
-use Rattle.std.specs.Prelude.{◌⊎◌, length, max, map, nat_eq, nat_lt}
+use Rattle.std.proofs.Common.{◌≡◌, ◌<◌, ◌≤◌, ℕ, Bool, true, false, List, [], ◌∷◌, Option, Some, None, refl, ap, sym, subst, ◌∙◌, cond, arith, inl, inr}
+use Rattle.std.specs.Prelude.{◌⊎◌, length, nat_eq, nat_lt}
 use Rattle.std.specs.List.{AllByRecursion, Contains}
 use Rattle.std.proofs.lemmas.List.Elements.{Contains-append_cases}
 use Rattle.std.proofs.lemmas.Bool.Decides.{nat_tests}
@@ -17,10 +17,11 @@ use Rattle.lock_model.specs.declared.writer.WriterEntry.{WriterEntry}
 use Rattle.lock_model.specs.declared.writer.WriterStatus.{WriterStatus}
 use Rattle.lock_model.specs.declared.writer.WriterStatus.TheVariants.{Live, Closed, Recovered}
 use Rattle.lock_model.specs.State.{State, start, at, is_live}
+use Rattle.lock_model.specs.Moves.{is_live_at}
 use Rattle.lock_model.specs.Step as does
 use Rattle.lock_model.specs.Step.{step, roster, roster_entry, state_told, length_told, heard}
-use Rattle.lock_model.specs.Runs.{after, sent, LogEnd, end_of, ended_at, IsSameWriter, WriterStays, WritersDiffer, told_of, IsToldLive, TellsEnd, EndStays, RosterHas, RostersAreWhole, SameFresh, FreshAgree, GivesEnd, is_live_at}
-use Rattle.lock_model.proofs.WriterLemmas.{Numbered, GotNext, FreshGoes, Keeps, IsNew, WriterMove, TellsWriters, WriterStep, note_writer, put_found}
+use Rattle.lock_model.specs.Runs.{after, sent, LogEnd, end_of, ended_at, IsSameWriter, WriterStays, WritersDiffer, told_of, IsToldLive, TellsEnd, EndStays, RosterHas, RostersAreWhole, SameFresh, FreshAgree, GivesEnd}
+use Rattle.lock_model.proofs.WriterLemmas.{Numbered, FreshGoes, WriterMove, TellsWriters, WriterStep, note_writer, put_found}
 use Rattle.lock_model.proofs.PageRuns.{all_each, all_join, all_at}
 
 -- ---- a step, with the message heard

@@ -1,18 +1,15 @@
 -- Runs of the lock manager over lists of messages, and what the laws say of them.
-use Rattle.std.specs.Prelude.{◌≡◌, ◌≢◌, ◌<◌, ◌≤◌, ◌⊎◌, ℕ, List, [], ◌∷◌, ◌++◌, length, Bool, true, false, nat_eq, nat_lt, ◌&&◌, cond}
+use Rattle.std.specs.Prelude.{◌≡◌, ◌≢◌, ◌<◌, ◌≤◌, ◌⊎◌, ℕ, List, [], ◌∷◌, ◌++◌, length, true, false, nat_eq, cond}
 use Rattle.std.specs.List.{AllByRecursion, Contains}
 use Rattle.std.specs.declared.option.Option.{Option}
 use Rattle.std.specs.declared.option.Option.TheVariants.{None, Some}
-use Rattle.tm_data.specs.declared.transaction.Page.{Page}
 use Rattle.tm_data.specs.declared.transaction.Writer.{Writer}
 use Rattle.tm_data.specs.declared.transaction.Stamp.{Stamp}
 use Rattle.tm_data.specs.declared.vector.VectorEntry.{VectorEntry}
 use Rattle.tm_data.specs.Vectors.{IsVector, Covers}
 use Rattle.tm_base.specs.declared.message.Message.{Message}
-use Rattle.tm_base.specs.declared.message.Node.{Node}
 use Rattle.tm_base.specs.declared.message.Note.{Note}
 use Rattle.tm_base.specs.declared.message.Note.TheVariants as note
-use Rattle.tm_base.specs.declared.message.PageStamp.{PageStamp}
 use Rattle.tm_base.specs.declared.message.RosterEntry.{RosterEntry}
 use Rattle.tm_base.specs.declared.message.Tag.{Tag}
 use Rattle.tm_base.specs.declared.message.WriterState.{WriterState}
@@ -21,8 +18,9 @@ use Rattle.lock_model.specs.declared.page.PageEntry.{PageEntry}
 use Rattle.lock_model.specs.declared.writer.WriterEntry.{WriterEntry}
 use Rattle.lock_model.specs.declared.writer.WriterStatus.{WriterStatus}
 use Rattle.lock_model.specs.declared.writer.WriterStatus.TheVariants.{Live, Closed, Recovered}
-use Rattle.lock_model.specs.State.{State, start, at, page_in, is_holder, is_live, left}
-use Rattle.lock_model.specs.Step.{step, stamps, freed_with}
+use Rattle.lock_model.specs.State.{State, start, at, page_in}
+use Rattle.lock_model.specs.Moves.{is_live_at, leaves_of}
+use Rattle.lock_model.specs.Step.{step}
 
 -- ---- runs
 
@@ -66,31 +64,6 @@ abbrev pub GrantsAgree : List Message → Message → Message → Type 0
 GrantsAgree inputs g h = Contains (sent start inputs) g → Contains (sent start inputs) h → SameGrant g.note h.note
 
 -- ---- what is left of a page
-
--- An accepted release leaves the page with its stamp and tags, and with what either knew of each writer:
--- one of a live writer that holds the page at that epoch.
-abbrev pub released_page : State → ℕ → ℕ → ℕ → List Tag → List VectorEntry → Option WriterEntry → Bool → Option PageEntry
-released_page s page epoch stamp tags vector None held = None
-released_page s page epoch stamp tags vector (Some e) held =
-    cond (is_live e.status && held) (Some (left (page_in s page) stamp tags vector)) None
-
-abbrev pub taken_status : State → ℕ → ℕ → Bool → List PageStamp → List VectorEntry → WriterStatus → Option PageEntry
-taken_status s page writer rest listed vector Live = None
-taken_status s page writer rest listed vector (Closed length store taken) =
-    freed_with (page_in s page) vector (is_holder (page_in s page) writer) (at (stamps [] listed) page) rest
-taken_status s page writer rest listed vector (Recovered length store kept) = None
-
--- An accepted takeover frees a page that a closed writer holds.
-abbrev pub taken_page_of : State → ℕ → ℕ → Bool → List PageStamp → List VectorEntry → Option WriterEntry → Option PageEntry
-taken_page_of s page writer rest listed vector None = None
-taken_page_of s page writer rest listed vector (Some e) = taken_status s page writer rest listed vector e.status
-
--- What a message leaves of a page, where it is an accepted release or takeover of it.
-abbrev pub leaves_of : State → Note → ℕ → Option PageEntry
-leaves_of s (note.Release writer page epoch stamp tags vector) q =
-    released_page s q epoch stamp.0 tags vector (at s.writers writer.0) (nat_eq q page.0 && (is_holder (page_in s page.0) writer.0 && nat_eq epoch (page_in s page.0).epoch))
-leaves_of s (note.Takeover writer part rest listed vector) q = taken_page_of s q writer.0 rest listed vector (at s.writers writer.0)
-leaves_of s other q = None
 
 -- Stamp, tags and vector of a page.
 pub record Content : Type 0 where
@@ -207,10 +180,6 @@ abbrev pub EndStays : List Message → List Message → ℕ → LogEnd → Type 
 EndStays inputs later writer end =
     ended_at (at (after start inputs).writers writer) ≡ Some end
     → (ended_at (at (after (after start inputs) later).writers writer) ≡ Some end) × AllByRecursion (λ m. TellsEnd writer end m.note) (sent (after start inputs) later)
-
-abbrev pub is_live_at : Option WriterEntry → Bool
-is_live_at None = false
-is_live_at (Some e) = is_live e.status
 
 -- A close of a live writer gives its log the end that it names.
 abbrev pub GivesEnd : State → Message → Note → Type 0

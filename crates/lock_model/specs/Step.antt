@@ -1,5 +1,5 @@
 -- What the lock manager does with a message.
-use Rattle.std.specs.Prelude.{ℕ, zero, suc, ◌+◌, ◌-◌, ◌^◌, List, [], ◌∷◌, map, length, filter_map, Bool, true, false, not, ◌&&◌, ◌||◌, nat_eq, nat_lt, max, cond, is_some}
+use Rattle.std.specs.Prelude.{ℕ, zero, suc, ◌+◌, ◌-◌, ◌^◌, List, [], ◌∷◌, map, length, filter_map, Bool, true, false, not, ◌&&◌, ◌||◌, nat_eq, nat_lt, max, cond}
 use Rattle.tm_data.specs.declared.transaction.Writer.{Writer}
 use Rattle.std.specs.Option.{option_map}
 use Rattle.std.specs.declared.option.Option.{Option}
@@ -23,7 +23,7 @@ use Rattle.lock_model.specs.declared.writer.Life.{Life}
 use Rattle.lock_model.specs.declared.writer.WriterEntry.{WriterEntry}
 use Rattle.lock_model.specs.declared.writer.WriterStatus.{WriterStatus}
 use Rattle.lock_model.specs.declared.writer.WriterStatus.TheVariants.{Live, Closed, Recovered}
-use Rattle.lock_model.specs.State.{State, at, put, put_all, page_in, unused_page, holder_of, is_holder, leased, left, is_live, with_writer, with_page}
+use Rattle.lock_model.specs.State.{State, at, put, page_in, unused_page, holder_of, is_holder, leased, left, is_live, with_writer, with_page}
 
 -- The state after a step, whether the step changed it, and what is sent.
 abbrev pub Effect : Type 0

@@ -1,2 +1,3 @@
 mod PrefixLemmas
+mod OrderLemmas
 mod ResendLemmas

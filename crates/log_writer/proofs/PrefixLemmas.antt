@@ -1,12 +1,11 @@
 -- Facts on the prefixes of the log that were acknowledged.
-use Rattle.std.proofs.Common.{◌≡◌, ◌≢◌, ◌≤◌, ◌<◌, ◌+◌, ◌-◌, ◌^◌, ℕ, Bool, true, false, cond, ◌&&◌, ◌||◌, nat_eq, List, [], ◌∷◌, ◌++◌, length, drop, set, slice_get, Option, Some, None, suc, zero, refl, sym, subst, length-append, ap, ◌∙◌, arith, min}
+use Rattle.std.proofs.Common.{◌≡◌, ◌≢◌, ◌≤◌, ◌+◌, ◌-◌, ℕ, Bool, true, false, cond, ◌&&◌, ◌||◌, nat_eq, List, [], ◌∷◌, ◌++◌, length, drop, set, slice_get, Option, Some, None, suc, zero, refl, sym, subst, ap, ◌∙◌, arith, min}
 use Rattle.std.specs.List.{prefix_len}
 use Rattle.std.proofs.lemmas.Bool.Decides.{nat_tests}
 use Rattle.std.proofs.lemmas.List.Sums.{prefix_len-le-length}
 use Rattle.log_writer.specs.declared.acks.Acks.{Acks}
 use Rattle.log_writer.specs.declared.logged.Logged.{Logged}
-use Rattle.log_writer.specs.Acks.{has, no_acks, with_ack}
-use Rattle.log_writer.specs.Inside.{IsKept}
+use Rattle.log_writer.specs.Acks.{has, with_ack}
 use Rattle.log_writer.specs.Log.{acked_at, acked_there, durable_seq, reached}
 
 -- A prefix is some first elements of it and what passes behind them.
@@ -97,11 +96,3 @@ reached_other (l ∷ ls) store a b c = by (nat_eq store 1) (nat_eq store 2) (nat
 pub prefix_ends : {X : Type 0} (p : X → Bool) (xs : List X) (y : X) → p y ≡ false → prefix_len p (xs ++ y ∷ []) ≡ prefix_len p xs
 prefix_ends p [] y h = ap (λ b. cond b (1 + prefix_len p []) 0) h
 prefix_ends p (x ∷ xs) y h = ap (λ n. cond (p x) (1 + n) 0) (prefix_ends p xs y h)
-
-pub kept_appended : (groups : List Logged) (logged : Logged) (first second third : ℕ) → IsKept groups first second third → logged.acks ≡ no_acks → length groups + 1 < 2 ^ 32 → IsKept (groups ++ logged ∷ []) first second third
-kept_appended groups logged first second third kept none short = record {
-  short = subst (λ n. n < 2 ^ 32) (sym (length-append groups (logged ∷ []))) short;
-  first_is = kept.first_is ∙ sym (prefix_ends (λ l. has l.acks 1) groups logged (ap (λ acks. has acks 1) none));
-  second_is = kept.second_is ∙ sym (prefix_ends (λ l. has l.acks 2) groups logged (ap (λ acks. has acks 2) none));
-  third_is = kept.third_is ∙ sym (prefix_ends (λ l. has l.acks 3) groups logged (ap (λ acks. has acks 3) none));
-}

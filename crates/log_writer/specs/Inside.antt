@@ -1,9 +1,12 @@
 -- What the writer's log keeps beside its groups.
 use Rattle.std.specs.Prelude.{◌≡◌, ℕ, ◌<◌, ◌^◌, List, length}
 use Rattle.log_writer.specs.declared.logged.Logged.{Logged}
-use Rattle.log_writer.specs.Log.{reached}
+use Rattle.tm_data.specs.declared.transaction.Writer.{Writer}
+use Rattle.log_writer.specs.Log.{reached, InOrder}
 
-pub record IsKept (groups : List Logged) (first second third : ℕ) : Type 0 where
+pub record IsKept (writer : Writer) (groups : List Logged) (first second third : ℕ) : Type 0 where
+  -- the groups are the writer's, numbered without gaps, and their stamps rise
+  pub order : InOrder writer 1 0 groups
   -- each number fits 32 bits
   pub short : length groups < 2 ^ 32
   pub first_is : first ≡ reached groups 1

@@ -1,5 +1,5 @@
 -- The log of one writer: its groups, with the log stores that acknowledged each.
-use Rattle.std.specs.Prelude.{ℕ, ◌-◌, cond, not, nat_eq, List, [], ◌∷◌, ◌++◌, length, take, map, slice_get, slice_set, Option, Some, None}
+use Rattle.std.specs.Prelude.{◌≡◌, ◌<◌, ℕ, ◌+◌, ◌-◌, Bool, false, cond, not, nat_eq, List, [], ◌∷◌, ◌++◌, length, take, map, slice_get, slice_set, Option, Some, None}
 use Rattle.std.specs.List.{filter, prefix_len}
 use Rattle.tm_data.specs.declared.log.Group.{Group}
 use Rattle.tm_data.specs.declared.transaction.Writer.{Writer}
@@ -24,6 +24,15 @@ stamp_at groups seq = stamp_of (numbered groups seq)
 
 abbrev pub last_stamp : List Logged → ℕ
 last_stamp groups = stamp_at groups (length groups)
+
+-- The groups are this writer's, numbered from `seq` on without gaps, and their stamps rise, all above `after`.
+abbrev pub InOrder : Writer → ℕ → ℕ → List Logged → Type 0
+InOrder writer seq after [] = Unit {0}
+InOrder writer seq after (l ∷ ls) = (l.group.writer ≡ writer) × (l.group.seq ≡ seq) × (after < l.group.stamp.0) × InOrder writer (seq + 1) l.group.stamp.0 ls
+
+-- What holds of every log: its groups are its writer's, numbered from 1 on, and no stamp is 0.
+abbrev pub IsLog : Log → Type 0
+IsLog log = InOrder log.writer 1 0 log.groups
 
 -- ---- what changes it
 
@@ -55,6 +64,23 @@ durable_seq groups = prefix_len (λ logged. has_all logged.acks) groups
 -- The stamp of that prefix, which is its last group's.
 abbrev pub durable_stamp : List Logged → ℕ
 durable_stamp groups = stamp_at groups (durable_seq groups)
+
+-- The stamp up to which every change of the writer is durable: one less than that of the first group that
+-- isn't, or the scalar where every group is.
+abbrev pub settled_before : Option Logged → ℕ → ℕ
+settled_before None scalar = scalar
+settled_before (Some logged) scalar = logged.group.stamp.0 - 1
+
+abbrev pub settled : List Logged → ℕ → ℕ
+settled groups scalar = settled_before (slice_get groups (durable_seq groups)) scalar
+
+-- Whether a store acknowledged the group of a number.
+abbrev pub marked_of : Option Logged → ℕ → Bool
+marked_of None store = false
+marked_of (Some logged) store = has logged.acks store
+
+abbrev pub is_marked : List Logged → ℕ → ℕ → Bool
+is_marked groups seq store = marked_of (numbered groups seq) store
 
 -- The least store that hasn't acknowledged a group. One that isn't there, none has.
 abbrev pub lacking_of : Option Logged → Option ℕ

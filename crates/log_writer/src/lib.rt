@@ -5,6 +5,7 @@
 #![tactic(auto)]
 
 mod acks;
+pub mod laws;
 mod log_writer;
 mod logged;
 

@@ -1,6 +1,6 @@
 //! The log of one writer.
 ghost use Rattle.std.specs.Prelude.{◌≡◌, ◌+◌, ◌<◌, ◌≤◌, [], IfOk, OnOk, OnErr, length};
-ghost use Rattle.log_writer.specs.Log.{acked, acked_at, appended, durable_seq, durable_stamp, lacking, last_stamp, reached, resent, stamp_at};
+ghost use Rattle.log_writer.specs.Log.{acked, acked_at, appended, durable_seq, durable_stamp, IsLog, lacking, last_stamp, reached, resent, settled, stamp_at};
 
 use crate::{Acks, Logged};
 use std::alloc::Global;
@@ -32,7 +32,7 @@ impl Model for LogWriter {
 
     ghost view = { λ l. record { writer = l.writer; groups = l.groups.items } };
 
-    ghost invariant = { λ l. IsKept l.groups.items l.first l.second l.third };
+    ghost invariant = { λ l. IsKept l.writer l.groups.items l.first l.second l.third };
 }
 
 impl LogWriter {
@@ -56,9 +56,11 @@ impl LogWriter {
         self.writer
     }
 
-    /// The number of the last group, 0 while there is none.
+    /// The number of the last group, 0 while there is none. The groups are the writer's, numbered from 1
+    /// on without gaps, and their stamps rise.
     pub fn last_seq(&self) -> u32
-        ensures { result ≡ length self.now.groups }
+        ensures value { result ≡ length self.now.groups }
+        ensures order { IsLog self.now }
     {
         self.groups.len() as u32
     }
@@ -109,6 +111,17 @@ impl LogWriter {
         ensures { result.0 ≡ durable_stamp self.now.groups }
     {
         stamp_at(self.groups.as_slice(), self.durable_seq() as usize)
+    }
+
+    /// The stamp up to which every change of this writer is durable: one less than the stamp of the first
+    /// group that isn't durable, or `scalar`, its clock's, where every group is.
+    pub fn settled(&self, scalar: Stamp) -> Stamp
+        ensures { result.0 ≡ settled self.now.groups scalar.0 }
+    {
+        match self.groups.get(self.durable_seq() as usize) {
+            Some(logged) => Stamp(logged.group.stamp.0 - 1),
+            None => scalar,
+        }
     }
 
     /// The least log store that hasn't acknowledged the group of that number, none where all three have.

@@ -48,6 +48,7 @@ fn the_durable_prefix_is_what_all_three_acknowledged(rt: HostRuntime) -> Result<
     };
     assert_eq!(rt; log.last_seq(), 3);
     assert_eq!(rt; log.last_stamp(), Stamp(30));
+    assert_eq!(rt; log.settled(Stamp(99)), Stamp(9));
     // store, number, and then: the durable number and stamp, and what number 2 lacks
     let acks: [(u8, u32, u32, u64, Option<u8>); 11] = [
         (1, 1, 0, 0, Some(1)),
@@ -68,6 +69,7 @@ fn the_durable_prefix_is_what_all_three_acknowledged(rt: HostRuntime) -> Result<
         assert_eq!(rt; log.durable(), Stamp(*durable));
         assert_eq!(rt; log.lacking(2), *lacking);
     }
+    assert_eq!(rt; log.settled(Stamp(99)), Stamp(29));
     assert_eq!(rt; log.lacking(0), Some(1));
     assert_eq!(rt; log.lacking(4), Some(1));
     Ok(())

@@ -1,0 +1,5 @@
+use Rattle.lock_model.proofs.ToldLemmas.{step_tells}
+use Rattle.lock_model.proofs.laws.sent_messages_say_what_is.Goals as goal
+
+pub returns : goal.returns
+returns c = step_tells
