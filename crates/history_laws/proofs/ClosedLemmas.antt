@@ -1,18 +1,16 @@
 -- The cuts of scalars and of closed vectors are closed.
-use Rattle.std.proofs.Common.{◌≡◌, ◌≢◌, ◌≤◌, ◌<◌, ◌⊎◌, ℕ, Bool, true, false, cond, ◌&&◌, nat_eq, nat_le, List, [], ◌∷◌, ◌++◌, map, inl, inr, refl, sym, subst, ap, ◌∙◌, arith}
+use Rattle.std.proofs.Common.{◌≡◌, ◌≤◌, ◌⊎◌, ℕ, true, nat_le, List, [], ◌∷◌, ◌++◌, map, inl, inr, refl, sym, subst, ap, ◌∙◌, arith}
 use Rattle.std.proofs.lemmas.Bool.{cases_eq, and_parts}
 use Rattle.std.proofs.lemmas.Bool.Decides.{nat_tests}
 use Rattle.std.specs.List.{AllByRecursion, filter_map}
-use Rattle.std.specs.declared.option.Option.{Option}
-use Rattle.std.specs.declared.option.Option.TheVariants.{None, Some}
 use Rattle.tm_data.specs.declared.log.Group.{Group}
 use Rattle.tm_data.specs.declared.log.Record.{Record}
 use Rattle.tm_data.specs.declared.log.Record.TheVariants as change
 use Rattle.key_model.specs.declared.events.Event.{Event}
 use Rattle.key_model.specs.Events.{is_logged}
 use Rattle.key_model.specs.Causes.{reaching}
-use Rattle.key_model.specs.Cuts.{Cut, upto, under, is_in, mark_of, IsIn, IsClosed}
-use Rattle.history_model.specs.History.{Bound, Deed, Reads, Logs, Entry, has, events, events_in, event_of, events_of}
+use Rattle.key_model.specs.Cuts.{upto, under, IsIn, IsClosed}
+use Rattle.history_model.specs.History.{Bound, Deed, Reads, Logs, Entry, events, events_in, event_of, events_of}
 use Rattle.history_model.specs.Bounds.{AtMost, has_under, IsBelowOwn, BoundsOrderTouches, Bounded, bounded, with_bound, IsOwnCover}
 use Rattle.history_laws.specs.Statements.{the_event, IsCovered}
 use Rattle.history_laws.proofs.ListLemmas.{all_map, all_split}

@@ -1,3 +1,4 @@
 pub mod ListLemmas
 pub mod BoundLemmas
 pub mod ClosedLemmas
+pub mod CountLemmas

@@ -1,10 +1,16 @@
 //! The laws of cuts, bounds, blocks and closes.
-ghost use Rattle.history_laws.specs.Statements.{BoundsCoverCauses, ScalarCutsAreClosed, VectorCutsAreClosed};
+ghost use Rattle.history_laws.specs.Statements.{BoundsCoverCauses, FullVectorsAreUnderBounds, ScalarCutsAreClosed, VectorCutsAreClosed};
 
 /// Of all events that reach an event, by however long a chain of touches, the event's bound covers the
 /// logged ones. A bound that left out what its writer heard of others with a page would not.
 pub fn bounds_cover_causes()
     ensures { BoundsCoverCauses }
+{}
+
+/// What the full vector of an event counts of a writer are events whose stamps are at most the bound's:
+/// the bound may have more, never less. A bound made of the stamps of direct causes alone has less.
+pub fn full_vectors_are_under_bounds()
+    ensures { FullVectorsAreUnderBounds }
 {}
 
 /// The cut of every scalar is closed: with an event it has each logged event that reaches it, since the
