@@ -1,12 +1,17 @@
 -- What the laws say.
 use Rattle.std.specs.Prelude.{◌≡◌, ℕ, ◌≤◌, ◌&&◌, true, List, ◌∷◌, ◌++◌, map, take, filter}
 use Rattle.std.specs.List.{AllByRecursion}
+use Rattle.tm_data.specs.declared.row_map.RowKey.{RowKey}
+use Rattle.tm_data.specs.declared.log.Group.{Group}
 use Rattle.key_model.specs.declared.events.Event.{Event}
 use Rattle.key_model.specs.Events.{is_logged, is_by}
 use Rattle.key_model.specs.Causes.{reaching, full_vector}
-use Rattle.key_model.specs.Cuts.{upto, under, IsClosed}
-use Rattle.history_model.specs.History.{Bound, Entry, events}
+use Rattle.key_model.specs.Cuts.{Cut, upto, under, IsClosed, row_at, value_at, last_ended_at}
+use Rattle.key_model.specs.Clean.{IsClean}
+use Rattle.history_model.specs.History.{Bound, Entry, events, groups}
 use Rattle.history_model.specs.Bounds.{BoundsOrderTouches, Bounded, bounded, IsOwnCover}
+use Rattle.history_model.specs.Images.{rows_in, IsWhole, StampsRise, BoundsOrderPages}
+use Rattle.history_model.specs.Blocks.{InBlocks, EndsComeLast, PutsStandTogether}
 
 -- ---- bounds order touches
 
@@ -45,3 +50,33 @@ ScalarCutsAreClosed = (entries : List Entry) → BoundsOrderTouches entries → 
 abbrev pub VectorCutsAreClosed : Type 0
 VectorCutsAreClosed =
     (entries : List Entry) → BoundsOrderTouches entries → (v : Bound) → IsOwnCover entries v → IsClosed (events entries) (under v)
+
+-- ---- blocks
+
+-- A list in blocks whose ends come last in their transactions, and whose undone transactions restore each key, is clean.
+abbrev pub BlocksAreClean : Type 0
+BlocksAreClean = (all : List Event) → InBlocks all → EndsComeLast all → IsClean all
+
+-- At a closed cut of such a list the value of a key is that of the last run which has its transaction's end in the cut: the
+-- run's last value, which for an undone transaction is the restored one.
+abbrev pub ValueIsOfLastEnded : Type 0
+ValueIsOfLastEnded =
+    (all : List Event) (cut : Cut) → InBlocks all → EndsComeLast all → IsClosed all cut
+    → (key : RowKey) → value_at all cut key ≡ last_ended_at all cut key
+
+-- ---- rows
+
+-- At every cut the rows that are made one put after another are the rows at the cut, where each transaction's puts on a
+-- key stand together.
+abbrev pub RowsAreMadeInTurn : Type 0
+RowsAreMadeInTurn =
+    (entries : List Entry) (cut : Cut) → PutsStandTogether (events entries)
+    → (key : RowKey) → rows_in cut (groups entries) key ≡ row_at (events entries) cut key
+
+-- ---- cuts that are whole for pages
+
+abbrev pub ScalarCutsAreWhole : Type 0
+ScalarCutsAreWhole = (gs : List Group) → StampsRise gs → (s : ℕ) → IsWhole gs (upto s)
+
+abbrev pub VectorCutsAreWhole : Type 0
+VectorCutsAreWhole = (entries : List Entry) → BoundsOrderPages entries → (v : Bound) → IsOwnCover entries v → IsWhole (groups entries) (under v)

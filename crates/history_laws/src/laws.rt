@@ -1,5 +1,5 @@
 //! The laws of cuts, bounds, blocks and closes.
-ghost use Rattle.history_laws.specs.Statements.{BoundsCoverCauses, FullVectorsAreUnderBounds, ScalarCutsAreClosed, VectorCutsAreClosed};
+ghost use Rattle.history_laws.specs.Statements.{BlocksAreClean, BoundsCoverCauses, FullVectorsAreUnderBounds, ScalarCutsAreClosed, ScalarCutsAreWhole, ValueIsOfLastEnded, VectorCutsAreClosed, VectorCutsAreWhole};
 
 /// Of all events that reach an event, by however long a chain of touches, the event's bound covers the
 /// logged ones. A bound that left out what its writer heard of others with a page would not.
@@ -23,4 +23,30 @@ pub fn scalar_cuts_are_closed()
 /// a group, and not what the group's writer had heard of others, leaves out causes.
 pub fn vector_cuts_are_closed()
     ensures { VectorCutsAreClosed }
+{}
+
+/// A list in blocks whose ends come last in their transactions, and whose undone transactions restore
+/// each key, is clean. Were a run over as soon as its last put restores the value before, also where its
+/// transaction commits later, it would not be: the commit would enter values under those of others.
+pub fn blocks_are_clean()
+    ensures { BlocksAreClean }
+{}
+
+/// At a closed cut of such a list the value of a key is that of the last run with its transaction's end in
+/// the cut: the run's last value, which an undone transaction has restored. The value of the last run of all
+/// would show what is in doubt.
+pub fn a_value_is_of_the_last_ended_run()
+    ensures { ValueIsOfLastEnded }
+{}
+
+/// The cut of every scalar is whole for pages: it has the versions on which its groups stand, since stamps
+/// on a page rise. Without that a page could be cut between a record and the version that it changes.
+pub fn scalar_cuts_are_whole_for_pages()
+    ensures { ScalarCutsAreWhole }
+{}
+
+/// The cut of every vector that is its own cover is whole for pages. Bounds that don't grow with a page
+/// as it goes from one writer to the next would let such a cut have a change and not the one below it.
+pub fn vector_cuts_are_whole_for_pages()
+    ensures { VectorCutsAreWhole }
 {}

@@ -29,7 +29,7 @@ pub all_onto : (P : Event → Type 0) (past es : List Event) → AllByRecursion 
 all_onto P [] es h = (tt, h)
 all_onto P (e ∷ past) es h = let r = all_onto P past (e ∷ es) h in ((r.1.0, r.0), r.1.1)
 
-any_later : (p : Event → Bool) (past es : List Event) → list_any p es ≡ true → list_any p (onto past es) ≡ true
+pub any_later : (p : Event → Bool) (past es : List Event) → list_any p es ≡ true → list_any p (onto past es) ≡ true
 any_later p [] es h = h
 any_later p (e ∷ past) es h = any_later p past (e ∷ es) (or_right (p e) (list_any p es) h)
 

@@ -13,7 +13,7 @@ use Rattle.key_model.specs.Steps.{row_of, or_mapped}
 use Rattle.key_model.specs.After.{same_txn, same_row}
 use Rattle.key_model.specs.Events.{Event, EventKind, Read, Put, End, logs, puts, key_of, concerns, ends, is_logged, is_put, is_of, is_end_of, is_by, has_end, conflicts}
 use Rattle.key_model.specs.Causes.{touches, reaching}
-use Rattle.key_model.specs.Cuts.{Cut, is_in, mark_of, IsIn, IsClosed, gathered, within, Written, written, written_if, puts_on, wrote, wrote_last, value_after, value_before, Restores, value_by, value_at, made, entered, folded, folded_at}
+use Rattle.key_model.specs.Cuts.{Cut, is_in, mark_of, IsIn, IsClosed, gathered, within, Written, written, written_if, puts_on, wrote, wrote_last, value_after, value_before, Restores, value_by, value_at, made, entered, folded, folded_at, last_ended, last_ended_at}
 use Rattle.key_model.specs.Clean.{IsOpen, MayEnd, IsOver, MayPut, MayFollow, CleanFrom, IsClean}
 use Rattle.key_model.proofs.LawLemmas.{txn_is, txn_same, row_is, row_same}
 use Rattle.key_model.proofs.EventLemmas.{onto, onto_append, all_onto, any_onto, all_map, any_kept, none_kept, direct, IsPutOn, is_put_on, put_touches, wrote_conflicts, end_touches, end_logged}
@@ -300,34 +300,115 @@ module _ (events : List Event) (cut : Cut) (past : List Event) (a : Writer) (q :
           ∙ sym (own_end (at (End t false)) t (kept cut past) (puts_on key (kept cut past)) (λ u. refl) e.last)
       by (inr is) = fold_ ∙ sym (other_end (at (End t false)) t (kept cut past) (puts_on key (kept cut past)) (λ u. refl) is)
 
+-- ---- the last put that ended
+
+abbrev pub IsLast : RowKey → List Event → Type 0
+IsLast key past = last_ended past (puts_on key past) ≡ value_by past (puts_on key past)
+
+unended_last : (e : Event) (past : List Event) (ws : List Written) → ((u : Txn) → is_end_of u e ≡ false) → last_ended (e ∷ past) ws ≡ last_ended past ws
+unended_last e past [] h = refl
+unended_last e past (w ∷ ws) h =
+    ap (λ b. cond (b || has_end w.txn past) w.value (last_ended (e ∷ past) ws)) (h w.txn)
+    ∙ ap (λ x. cond (has_end w.txn past) w.value x) (unended_last e past ws h)
+
+other_last : (e : Event) (t : Txn) (past : List Event) (ws : List Written) → ((u : Txn) → is_end_of u e ≡ same_txn u t) → wrote t ws ≡ false
+    → last_ended (e ∷ past) ws ≡ last_ended past ws
+other_last e t past [] is h = refl
+other_last e t past (w ∷ ws) is h =
+    let both = or_parts (same_txn t w.txn) (wrote t ws) h in
+    ap (λ b. cond (b || has_end w.txn past) w.value (last_ended (e ∷ past) ws)) (is w.txn ∙ other_either t w.txn both.0)
+    ∙ ap (λ x. cond (has_end w.txn past) w.value x) (other_last e t past ws is both.1)
+
+own_last : (e : Event) (t : Txn) (past : List Event) (ws : List Written) → ((u : Txn) → is_end_of u e ≡ same_txn u t) → wrote_last t ws ≡ true
+    → last_ended (e ∷ past) ws ≡ value_after ws
+own_last e t past [] is h = absurd (cc h)
+own_last e t past (w ∷ ws) is h =
+    ap (λ b. cond (b || has_end w.txn past) w.value (last_ended (e ∷ past) ws)) (is w.txn ∙ same_either t w.txn h)
+
+module _ (events : List Event) (cut : Cut) (past : List Event) (a : Writer) (q : ℕ) (s : Stamp) where
+  abbrev event : EventKind → Event
+  event kind = record { actor = a; seq = q; stamp = s; kind = kind }
+
+  put_last : (key : RowKey) (t : Txn) (table : ℕ) (k : List ℕ) (x : Option (List ℕ)) → MayPut past t (row_of table k)
+      → Here events cut past (event (Put t table k x)) → IsFold key (kept cut past) → IsLast key (kept cut past) → IsLast key (event (Put t table k x) ∷ kept cut past)
+  put_last key t table k x may here fold_ last = by (same_row key (row_of table k)) refl
+    where
+      by : (b : Bool) → same_row key (row_of table k) ≡ b
+          → last_ended (event (Put t table k x) ∷ kept cut past) (cons_option (written_if (same_row key (row_of table k)) t x) (puts_on key (kept cut past)))
+          ≡ value_by (event (Put t table k x) ∷ kept cut past) (cons_option (written_if (same_row key (row_of table k)) t x) (puts_on key (kept cut past)))
+      by true is =
+          let e : Event = event (Put t table k x) in
+          let ws : List Written = puts_on key (kept cut past) in
+          let mine : Written = record { txn = t; value = x } in
+          let more : puts_on key (e ∷ kept cut past) ≡ mine ∷ ws = ap (λ b. cons_option (written_if b t x) ws) is in
+          let none : has_end t (kept cut past) ≡ false = none_kept (is_end_of t) (is_in cut) past may.open_ in
+          let value : value_by (e ∷ kept cut past) (puts_on key (e ∷ kept cut past)) ≡ value_by (kept cut past) ws =
+              sym (put_step events cut past a q s key t table k x may here fold_) ∙ fold_ in
+          ap (last_ended (e ∷ kept cut past)) more
+          ∙ ap (λ b. cond b x (last_ended (e ∷ kept cut past) ws)) none
+          ∙ unended_last e (kept cut past) ws (λ u. refl) ∙ last ∙ sym value
+      by false is =
+          let e : Event = event (Put t table k x) in
+          let ws : List Written = puts_on key (kept cut past) in
+          let more : puts_on key (e ∷ kept cut past) ≡ ws = ap (λ b. cons_option (written_if b t x) ws) is in
+          ap (last_ended (e ∷ kept cut past)) more ∙ unended_last e (kept cut past) ws (λ u. refl) ∙ last
+          ∙ sym (ap (value_by (e ∷ kept cut past)) more ∙ unended e (kept cut past) ws (λ u. refl))
+
+  end_last : (key : RowKey) (t : Txn) (committed : Bool) → MayEnd past a.0 t committed → Here events cut past (event (End t committed))
+      → IsLast key (kept cut past) → IsLast key (event (End t committed) ∷ kept cut past)
+  end_last key t committed may here last = by (cases_Bool (wrote t (puts_on key (kept cut past))))
+    where
+      by : (wrote t (puts_on key (kept cut past)) ≡ true) ⊎ (wrote t (puts_on key (kept cut past)) ≡ false) → IsLast key (event (End t committed) ∷ kept cut past)
+      by (inl is) =
+          let e = end_here events cut past a q s key t committed may here is in
+          own_last (event (End t committed)) t (kept cut past) (puts_on key (kept cut past)) (λ u. refl) e.last
+          ∙ sym (own_end (event (End t committed)) t (kept cut past) (puts_on key (kept cut past)) (λ u. refl) e.last)
+      by (inr is) =
+          other_last (event (End t committed)) t (kept cut past) (puts_on key (kept cut past)) (λ u. refl) is ∙ last
+          ∙ sym (other_end (event (End t committed)) t (kept cut past) (puts_on key (kept cut past)) (λ u. refl) is)
+
 -- ---- all events
+
+-- Both ways to say the value of a key.
+record IsValue (key : RowKey) (past : List Event) : Type 0 where
+  pub fold_ : IsFold key past
+  pub last : IsLast key past
 
 kind_step : (events : List Event) (cut : Cut) (past : List Event) (a : Writer) (q : ℕ) (s : Stamp) (key : RowKey) (kind : EventKind)
     → MayFollow past a.0 kind → Here events cut past (record { actor = a; seq = q; stamp = s; kind = kind })
     → is_logged (record { actor = a; seq = q; stamp = s; kind = kind }) ≡ true
-    → IsFold key (kept cut past) → IsFold key (record { actor = a; seq = q; stamp = s; kind = kind } ∷ kept cut past)
-kind_step events cut past a q s key (Read t table k) may here logged fold_ = absurd (cc logged)
-kind_step events cut past a q s key (Put t table k x) may here logged fold_ = put_step events cut past a q s key t table k x may here fold_
-kind_step events cut past a q s key (End t committed) may here logged fold_ = end_step events cut past a q s key t committed may here fold_
+    → IsValue key (kept cut past) → IsValue key (record { actor = a; seq = q; stamp = s; kind = kind } ∷ kept cut past)
+kind_step events cut past a q s key (Read t table k) may here logged v = absurd (cc logged)
+kind_step events cut past a q s key (Put t table k x) may here logged v = record {
+  fold_ = put_step events cut past a q s key t table k x may here v.fold_;
+  last = put_last events cut past a q s key t table k x may here v.fold_ v.last;
+}
+kind_step events cut past a q s key (End t committed) may here logged v = record {
+  fold_ = end_step events cut past a q s key t committed may here v.fold_;
+  last = end_last events cut past a q s key t committed may here v.last;
+}
 
 step : (events : List Event) (cut : Cut) (past : List Event) (e : Event) (key : RowKey) → MayFollow past e.actor.0 e.kind
     → HasCauses events cut past e → AllHaveCauses events cut past → ((p : Event → Bool) → list_any p past ≡ true → list_any p events ≡ true)
-    → IsFold key (kept cut past) → IsFold key (kept cut (e ∷ past))
-step events cut past e key may causes all sub fold_ = by (is_in cut e) refl
+    → IsValue key (kept cut past) → IsValue key (kept cut (e ∷ past))
+step events cut past e key may causes all sub v = by (is_in cut e) refl
   where
-    by : (b : Bool) → is_in cut e ≡ b → IsFold key (cond b (e ∷ kept cut past) (kept cut past))
+    by : (b : Bool) → is_in cut e ≡ b → IsValue key (cond b (e ∷ kept cut past) (kept cut past))
     by true is =
         kind_step events cut past e.actor e.seq e.stamp key e.kind may (record { causes = causes is; all = all; sub = sub })
-        (and_parts (is_logged e) (cut (mark_of e)) is).0 fold_
-    by false is = fold_
+        (and_parts (is_logged e) (cut (mark_of e)) is).0 v
+    by false is = v
 
 all_steps : (events : List Event) (cut : Cut) → IsClosed events cut → (key : RowKey) (rest past : List Event) → events ≡ onto past rest
-    → CleanFrom past rest → AllHaveCauses events cut past → IsFold key (kept cut past) → IsFold key (gathered cut (kept cut past) rest)
-all_steps events cut closed key [] past split clean all fold_ = fold_
-all_steps events cut closed key (e ∷ rest) past split clean all fold_ =
+    → CleanFrom past rest → AllHaveCauses events cut past → IsValue key (kept cut past) → IsValue key (gathered cut (kept cut past) rest)
+all_steps events cut closed key [] past split clean all v = v
+all_steps events cut closed key (e ∷ rest) past split clean all v =
     let causes : HasCauses events cut past e = has_causes events cut closed past rest e split in
     all_steps events cut closed key rest (e ∷ past) split clean.1 (causes, all)
-    (step events cut past e key clean.0 causes all (λ p h. subst (λ es. list_any p es ≡ true) (sym split) (any_onto p past (e ∷ rest) h)) fold_)
+    (step events cut past e key clean.0 causes all (λ p h. subst (λ es. list_any p es ≡ true) (sym split) (any_onto p past (e ∷ rest) h)) v)
 
 pub map_is_fold : (events : List Event) (cut : Cut) → IsClean events → IsClosed events cut → (key : RowKey) → value_at events cut key ≡ folded_at events cut key
-map_is_fold events cut clean closed key = sym (all_steps events cut closed key events [] refl clean tt refl)
+map_is_fold events cut clean closed key = sym (all_steps events cut closed key events [] refl clean tt (record { fold_ = refl; last = refl })).fold_
+
+pub map_is_last : (events : List Event) (cut : Cut) → IsClean events → IsClosed events cut → (key : RowKey) → value_at events cut key ≡ last_ended_at events cut key
+map_is_last events cut clean closed key = sym (all_steps events cut closed key events [] refl clean tt (record { fold_ = refl; last = refl })).last

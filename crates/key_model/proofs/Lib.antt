@@ -2,6 +2,6 @@ mod AnyLemmas
 mod BeginLemmas
 pub mod EventLemmas
 pub mod FoldLemmas
-mod LawLemmas
+pub mod LawLemmas
 mod OpenLemmas
 mod ValuedLemmas
