@@ -30,4 +30,5 @@ pub mod ReachGroups
 pub mod ReachLeaves
 pub mod ReachLaw
 pub mod ReachAlone
+pub mod SomeImages
 pub mod FirstImages
