@@ -74,7 +74,10 @@ module _ (whole part : Images) (is_part : IsPart part whole) where
         | inl put ↦ inl (put.0, put.1, put_too stamp group table put.0 put.1 put.2)
         | inr split ↦ elim split [
           | inl one ↦ inr (inl (one.0, one.1, one.2, one.3, split_too stamp group table one.0 one.1 one.2 one.3 one.4))
-          | inr top ↦ inr (inr (top.0, top.1, top.2, top.3, root_too stamp group table top.0 top.1 top.2 top.3 top.4))
+          | inr rest ↦ elim rest [
+            | inl top ↦ inr (inr (inl (top.0, top.1, top.2, top.3, root_too stamp group table top.0 top.1 top.2 top.3 top.4)))
+            | inr none ↦ inr (inr (inr none))
+          ]
         ]
       ]
 
