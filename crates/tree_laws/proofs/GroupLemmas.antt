@@ -37,14 +37,14 @@ Names r = page_of r ≡ Some (changed_page r)
 named_is : (r : Record) (x : ℕ) → Names r → is_named (page_of r) x ≡ nat_eq (changed_page r) x
 named_is r x n = ap (λ o. is_named o x) n
 
-named_here : (r : Record) (x : ℕ) → Names r → changed_page r ≡ x → is_named (page_of r) x ≡ true
+pub named_here : (r : Record) (x : ℕ) → Names r → changed_page r ≡ x → is_named (page_of r) x ≡ true
 named_here r x n e = named_is r x n ∙ ap (nat_eq (changed_page r)) (sym e) ∙ eq_itself (changed_page r)
 
 named_away : (r : Record) (x : ℕ) → Names r → changed_page r ≢ x → is_named (page_of r) x ≡ false
 named_away r x n away = named_is r x n ∙ eq_not (changed_page r) x away
 
 -- the record, if it names the page, before another's
-abbrev if_named : ℕ → Record → Option Record → Option Record
+abbrev pub if_named : ℕ → Record → Option Record → Option Record
 if_named x r o = cond (is_named (page_of r) x) (Some r) o
 
 on_by : (x : ℕ) (r s : Record) (rs : List Record) (b : Bool) → Names r → Names s → nat_lt (changed_page s) (changed_page r) ≡ b → record_on x (placed r rs) ≡ if_named x r (record_on x rs)

@@ -31,4 +31,6 @@ pub mod ReachLeaves
 pub mod ReachLaw
 pub mod ReachAlone
 pub mod SomeImages
+pub mod NamedPages
+pub mod LogLaws
 pub mod FirstImages

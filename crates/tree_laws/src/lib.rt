@@ -10,6 +10,8 @@
 //! a plan keeps it whatever stray pages there are.
 #![tactic(auto)]
 
+pub mod logs;
+
 ghost use Rattle.std.specs.Prelude.{◌≡◌, ◌≢◌, ◌↔◌, ◌≤◌, ◌<◌, ℕ, List, Ok, length};
 ghost use Rattle.std.specs.List.{AllByRecursion};
 ghost use Rattle.std.specs.Ordering.{nat_cmp};
