@@ -1,2 +1,4 @@
 pub mod ListLemmas
 pub mod BoundLemmas
+pub mod CutSteps
+pub mod CutRuns
