@@ -1,13 +1,13 @@
 -- Bounds order touches: what reaches an event is under its bound.
-use Rattle.std.proofs.Common.{◌≡◌, ◌≤◌, ◌⊎◌, ℕ, Bool, true, false, cond, ◌&&◌, List, [], ◌∷◌, ◌++◌, map, inl, inr, refl, sym, subst, ap, ◌∙◌, arith}
-use Rattle.std.specs.List.{AllByRecursion, list_any}
+use Rattle.std.proofs.Common.{◌≡◌, ◌≤◌, Bool, true, false, List, [], ◌∷◌, ◌++◌, map, inl, inr, refl, subst, ap, ◌∙◌, arith}
+use Rattle.std.specs.List.{AllByRecursion}
 use Rattle.key_model.specs.declared.events.Event.{Event}
-use Rattle.key_model.specs.Events.{is_logged, is_by}
-use Rattle.key_model.specs.Causes.{touches, touches_one, joining, with_cause, reaching}
+use Rattle.key_model.specs.Events.{is_logged}
+use Rattle.key_model.specs.Causes.{touches, touches_one, joining, reaching}
 use Rattle.history_model.specs.History.{Bound, Entry, events}
-use Rattle.history_model.specs.Bounds.{AtMost, TouchesRise, IsBelowOwn, BoundsOrderTouches, Bounded, bounded, IsOwnCover}
+use Rattle.history_model.specs.Bounds.{AtMost, TouchesRise, IsBelowOwn, BoundsOrderTouches, Bounded, bounded}
 use Rattle.history_laws.specs.Statements.{the_event, IsCovered}
-use Rattle.history_laws.proofs.ListLemmas.{Among, among_all, all_map, all_split, any_all}
+use Rattle.history_laws.proofs.ListLemmas.{Among, among_all, all_map, any_all}
 
 -- The event is that of one among these, whose bound is at most this one.
 record Comes (bound : Bound) (later : List Bounded) (e : Event) : Type 0 where

@@ -1,5 +1,5 @@
 -- Lists: what is among the items, what some item passes, and splits.
-use Rattle.std.proofs.Common.{◌≡◌, ◌⊎◌, ℕ, Bool, true, false, cond, ◌||◌, List, [], ◌∷◌, ◌++◌, inl, inr, refl, sym, subst, ap, ◌∙◌}
+use Rattle.std.proofs.Common.{◌≡◌, ◌⊎◌, Bool, true, false, ◌||◌, List, [], ◌∷◌, ◌++◌, inl, inr, refl, sym, subst}
 use Rattle.std.specs.List.{AllByRecursion, list_any}
 
 abbrev pub Among : {A : Type 0} → A → List A → Type 0

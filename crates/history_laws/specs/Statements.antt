@@ -5,7 +5,7 @@ use Rattle.key_model.specs.declared.events.Event.{Event}
 use Rattle.key_model.specs.Events.{is_logged, is_by}
 use Rattle.key_model.specs.Causes.{reaching, full_vector}
 use Rattle.key_model.specs.Cuts.{upto, under, IsClosed}
-use Rattle.history_model.specs.History.{Bound, Entry, events, groups}
+use Rattle.history_model.specs.History.{Bound, Entry, events}
 use Rattle.history_model.specs.Bounds.{BoundsOrderTouches, Bounded, bounded, IsOwnCover}
 
 -- ---- bounds order touches

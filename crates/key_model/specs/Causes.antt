@@ -1,6 +1,6 @@
 -- Which events an event depends on: Lamport's order (1978) with conflicts on keys in the place of messages, and the
 -- full vectors of it.
-use Rattle.std.specs.Prelude.{ℕ, Bool, true, false, ◌&&◌, ◌||◌, List, [], ◌∷◌, count_by}
+use Rattle.std.specs.Prelude.{ℕ, Bool, true, false, ◌&&◌, ◌||◌, List, [], ◌∷◌, length, filter}
 use Rattle.std.specs.List.{list_any}
 use Rattle.key_model.specs.Events.{Event, EventKind, Read, Put, End, is_logged, is_of, is_by, conflicts}
 
@@ -36,4 +36,4 @@ reaching events (i ∷ before) j = with_cause events i (reaching events before j
 -- The full vector of an event, counted from conflicts alone (Fidge 1988, Mattern 1989): for each actor the number of its
 -- logged events among this one and all before it that reach it.
 abbrev pub full_vector : List Event → List Event → Event → ℕ → ℕ
-full_vector events before j actor = count_by (λ e. is_by actor e && is_logged e) (reaching events before j)
+full_vector events before j actor = length (filter (λ e. is_by actor e && is_logged e) (reaching events before j))
