@@ -1,5 +1,5 @@
 -- The images of a cut, beside those of all groups.
-use Rattle.std.proofs.Common.{◌≡◌, ◌≢◌, ◌↔◌, ℕ, ◌≤◌, ◌<◌, Bool, true, false, ◌&&◌, ◌||◌, not, cond, nat_eq, List, [], ◌∷◌, Option, Some, None, refl, sym, ap, ◌∙◌, subst, arith, inl, inr, ◌⊎◌}
+use Rattle.std.proofs.Common.{◌≡◌, ◌≢◌, ℕ, ◌≤◌, Bool, true, false, ◌&&◌, ◌||◌, not, cond, nat_eq, List, [], ◌∷◌, Option, Some, None, refl, sym, ap, ◌∙◌, subst, arith, inl, inr, ◌⊎◌}
 use Rattle.std.proofs.lemmas.Bool.Decides.{nat_tests}
 use Rattle.std.specs.Prelude.{is_some}
 use Rattle.std.specs.List.{AllByRecursion, Contains, list_any}
@@ -17,10 +17,8 @@ use Rattle.key_model.specs.Steps.{row_of}
 use Rattle.key_model.specs.Cuts.{Cut}
 use Rattle.page_model.specs.Effects.{page_of, prev_of, row_set, redone_at, stamped, suiting}
 use Rattle.page_model.specs.Tree.{Images, level_of, is_of, may_hold}
-use Rattle.page_model.specs.Tiling.{is_named, record_on, changed, after, Has, Tiles, HasRow, Fits, rows_of}
-use Rattle.tree_laws.specs.Claims as claims
-use Rattle.tree_laws.specs.Logs.{Finds, AgreeOn}
-use Rattle.tree_laws.specs.Reach.{HasRowFromRoot}
+use Rattle.page_model.specs.Tiling.{is_named, changed, Has, Tiles, rows_of}
+use Rattle.tree_laws.specs.Logs.{Finds}
 use Rattle.tree_laws.proofs.ListLemmas.{IsIn}
 use Rattle.tree_laws.proofs.ChainLemmas.{in_all}
 use Rattle.tree_laws.proofs.FenceLemmas.{both}
@@ -30,9 +28,9 @@ use Rattle.tree_laws.proofs.FirstImages.{first_tiles, no_row, first_range}
 use Rattle.tree_laws.proofs.NamedPages.{fits_find, fits_alike}
 use Rattle.tree_laws.proofs.ReachLaw.{reached_tiles}
 use Rattle.history_model.specs.History.{has}
-use Rattle.history_model.specs.Images.{first_images, Rows, no_rows, row_put, rows_with, rows_if, rows_from, rows_in, record_of, images_after, images_if, images_from, images_at, GroupFits, FitFrom, AllFit, makes, changes_made, stands_on, IsWhole, AreRowsOf, Agrees}
+use Rattle.history_model.specs.Images.{first_images, Rows, no_rows, row_put, rows_with, rows_if, rows_from, rows_in, record_of, images_after, images_if, images_from, images_at, GroupFits, FitFrom, AllFit, makes, changes_made, stands_on, IsWhole, Agrees}
 use Rattle.history_laws.specs.CutRows.{AreTheRows, HasItsRows, CutsHaveTheirRows}
-use Rattle.history_laws.proofs.CutSteps.{FitsRows, fits_rows, NamesNone, rows_stay, images_stay, on_same, after_is, RowsAre, Good, group_good}
+use Rattle.history_laws.proofs.CutSteps.{FitsRows, fits_rows, on_same, RowsAre, Good, group_good}
 
 -- ---- the row of a key is in the leaf that may hold it
 
