@@ -5,4 +5,5 @@
 //! facts.
 #![tactic(auto)]
 
+pub mod cuts;
 pub mod laws;
