@@ -9,10 +9,11 @@ use Rattle.std.specs.declared.option.Option.TheVariants.{None, Some}
 use Rattle.tm_data.specs.declared.log.Group.{Group}
 use Rattle.tm_data.specs.declared.log.Record.{Record}
 use Rattle.page_model.specs.Effects.{page_of, prev_of}
+use Rattle.page_model.specs.Tiling.{record_on}
 use Rattle.key_model.specs.Cuts.{upto, under}
 use Rattle.history_model.specs.History.{Bound, Deed, Reads, Logs, Entry, group_of, groups, has}
 use Rattle.history_model.specs.Bounds.{AtMost, has_under, IsOwnCover}
-use Rattle.history_model.specs.Images.{record_of, makes, changes_made, stands_on, IsWhole, StampsRise, HasOwn, stands, BoundsOrderPages}
+use Rattle.history_model.specs.Images.{makes, changes_made, stands_on, IsWhole, StampsRise, HasOwn, stands, BoundsOrderPages}
 use Rattle.history_laws.proofs.ListLemmas.{all_map, any_all}
 
 le_of : (a b : ℕ) → nat_le a b ≡ true → a ≤ b
@@ -25,7 +26,7 @@ le_is a b h = grind (arith, nat_tests)
 
 made_at : (h : Group) (prev : ℕ) (page : Option ℕ) → makes h prev page ≡ true → h.stamp.0 ≡ prev
 made_at h prev None is = absurd (cc is)
-made_at h prev (Some p) is = let both = and_parts (is_some (record_of p h.records)) (nat_eq h.stamp.0 prev) is in grind (arith, nat_tests)
+made_at h prev (Some p) is = let both = and_parts (is_some (record_on p h.records)) (nat_eq h.stamp.0 prev) is in grind (arith, nat_tests)
 
 -- a group stands on versions with lesser stamps
 below : (g h : Group) → AllByRecursion (λ (r : Record). prev_of r ≢ 0 → prev_of r < g.stamp.0) g.records → stands_on g h ≡ true → h.stamp.0 < g.stamp.0

@@ -1,8 +1,6 @@
 -- Event lists in blocks: the puts of each key come in runs of one transaction each.
-use Rattle.std.specs.Prelude.{◌≡◌, ◌⊎◌, ℕ, Bool, true, false, cond, List, [], ◌∷◌}
+use Rattle.std.specs.Prelude.{◌≡◌, ◌⊎◌, ℕ, Bool, true, false, List, [], ◌∷◌}
 use Rattle.std.specs.List.{AllByRecursion}
-use Rattle.std.specs.declared.option.Option.{Option}
-use Rattle.std.specs.declared.option.Option.TheVariants.{None}
 use Rattle.tm_data.specs.declared.transaction.Txn.{Txn}
 use Rattle.tm_data.specs.declared.row_map.RowKey.{RowKey}
 use Rattle.key_model.specs.Steps.{row_of}
@@ -10,7 +8,7 @@ use Rattle.key_model.specs.declared.events.Event.{Event}
 use Rattle.key_model.specs.declared.events.EventKind.{EventKind}
 use Rattle.key_model.specs.declared.events.EventKind.TheVariants.{Read, Put, End}
 use Rattle.key_model.specs.Events.{is_of, is_by, has_end}
-use Rattle.key_model.specs.Cuts.{Cut, Written, within, puts_on, wrote, wrote_last, Restores}
+use Rattle.key_model.specs.Cuts.{Written, puts_on, wrote, wrote_last, Restores}
 use Rattle.key_model.specs.Clean.{IsOpen}
 
 -- ---- runs
