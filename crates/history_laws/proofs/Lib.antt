@@ -6,3 +6,4 @@ pub mod ClosedLemmas
 pub mod CountLemmas
 pub mod BlockLemmas
 pub mod WholeLemmas
+pub mod RowLemmas

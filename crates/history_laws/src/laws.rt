@@ -1,5 +1,5 @@
 //! The laws of cuts, bounds, blocks and closes.
-ghost use Rattle.history_laws.specs.Statements.{BlocksAreClean, BoundsCoverCauses, FullVectorsAreUnderBounds, ScalarCutsAreClosed, ScalarCutsAreWhole, ValueIsOfLastEnded, VectorCutsAreClosed, VectorCutsAreWhole};
+ghost use Rattle.history_laws.specs.Statements.{BlocksAreClean, BoundsCoverCauses, FullVectorsAreUnderBounds, RowsAreMadeInTurn, ScalarCutsAreClosed, ScalarCutsAreWhole, ValueIsOfLastEnded, VectorCutsAreClosed, VectorCutsAreWhole};
 
 /// Of all events that reach an event, by however long a chain of touches, the event's bound covers the
 /// logged ones. A bound that left out what its writer heard of others with a page would not.
@@ -49,4 +49,11 @@ pub fn scalar_cuts_are_whole_for_pages()
 /// as it goes from one writer to the next would let such a cut have a change and not the one below it.
 pub fn vector_cuts_are_whole_for_pages()
     ensures { VectorCutsAreWhole }
+{}
+
+/// At every cut the rows that are made one put after another are the rows at the cut, where each
+/// transaction's puts on a key stand together: the value before a transaction needs no more than the row
+/// that was there. Were the puts of two transactions on a key mixed, the row would have lost it.
+pub fn rows_are_made_in_turn()
+    ensures { RowsAreMadeInTurn }
 {}

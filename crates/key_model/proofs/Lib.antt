@@ -1,4 +1,4 @@
-mod AnyLemmas
+pub mod AnyLemmas
 mod BeginLemmas
 pub mod EventLemmas
 pub mod FoldLemmas
