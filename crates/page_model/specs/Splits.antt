@@ -86,7 +86,7 @@ page_above row (i ∷ is) = cond (is_full row i.body) (page_above row is) (Some 
 
 -- ---- records
 
--- The page that a record of a split names.
+-- The page that a record changes; 0 where it changes none, since no page has that number.
 abbrev pub changed_page : Record → ℕ
 changed_page change = unwrap_or (page_of change) 0
 

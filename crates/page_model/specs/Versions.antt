@@ -4,7 +4,6 @@
 -- record makes of the version at its `prev`, which is an older one.
 use Rattle.std.specs.Prelude.{ℕ, Bool, true, false, cond, ◌&&◌, nat_eq, nat_lt, nat_le, List, [], ◌∷◌}
 use Rattle.std.specs.Ordering.{nat_cmp}
-use Rattle.std.specs.Option.{unwrap_or}
 use Rattle.std.specs.FinMap.{FinMap, get, insert}
 use Rattle.std.specs.FinMap as fin
 use Rattle.std.specs.Coded.{Coded, coded_ℕ, coded_list}
@@ -18,9 +17,10 @@ use Rattle.tm_data.specs.declared.image.Image.{Image}
 use Rattle.tm_data.specs.declared.log.Record.{Record}
 use Rattle.tm_data.specs.declared.vector.VectorEntry.{VectorEntry}
 use Rattle.tm_data.specs.Vectors.{stamp_of}
-use Rattle.page_model.specs.Effects.{initial, redone_at, page_of, prev_of}
+use Rattle.page_model.specs.Effects.{initial, redone_at, prev_of}
 use Rattle.page_model.specs.contracts.link.Link as link
 pub use Rattle.page_model.specs.declared.link.Link.{Link}
+pub use Rattle.page_model.specs.Splits.{changed_page as page_changed}
 
 -- ---- the versions of a page
 
@@ -98,10 +98,6 @@ or_no_links (Some links) = links
 -- The links of a page.
 abbrev pub links_of : Held → ℕ → List Link
 links_of pages page = or_no_links (get pages page)
-
--- The page that a record changes, 0 where it changes none.
-abbrev pub page_changed : Record → ℕ
-page_changed change = unwrap_or (page_of change) 0
 
 -- A link that is held changes nothing. Where another one of its page and stamp is held, it isn't taken.
 abbrev pub taken_again : Held → Bool → Option Held

@@ -12,6 +12,10 @@ use Rattle.page_model.specs.Tiling.{Has, HasRow, rows_of, blank_page}
 abbrev pub first_images : Images
 first_images page = Some (initial (record { 0 = page }))
 
+-- Some of a set's images, as a master has them in memory: each that the part has the whole has, and the same one.
+abbrev pub IsPartOf : Images → Images → Type 0
+IsPartOf part whole = (p : ℕ) (i : Image) → part p ≡ Some i → whole p ≡ Some i
+
 -- The table has the same rows.
 abbrev pub SameRows : Images → Images → ℕ → Type 0
 SameRows old new table = (row : Row) → HasRow old table row ↔ HasRow new table row

@@ -1,0 +1,82 @@
+-- What the laws say.
+use Rattle.std.specs.Prelude.{◌≡◌, ℕ, ◌≤◌, ◌&&◌, true, List, ◌∷◌, ◌++◌, map, take, filter}
+use Rattle.std.specs.List.{AllByRecursion}
+use Rattle.tm_data.specs.declared.row_map.RowKey.{RowKey}
+use Rattle.tm_data.specs.declared.log.Group.{Group}
+use Rattle.key_model.specs.declared.events.Event.{Event}
+use Rattle.key_model.specs.Events.{is_logged, is_by}
+use Rattle.key_model.specs.Causes.{reaching, full_vector}
+use Rattle.key_model.specs.Cuts.{Cut, upto, under, IsClosed, row_at, value_at, last_ended_at}
+use Rattle.key_model.specs.Clean.{IsClean}
+use Rattle.history_model.specs.History.{Bound, Entry, events, groups}
+use Rattle.history_model.specs.Bounds.{BoundsOrderTouches, Bounded, bounded, IsOwnCover}
+use Rattle.history_model.specs.Images.{rows_in, IsWhole, StampsRise, BoundsOrderPages}
+use Rattle.history_model.specs.Blocks.{InBlocks, EndsComeLast, PutsStandTogether}
+
+-- ---- bounds order touches
+
+abbrev pub the_event : Bounded → Event
+the_event b = b.event
+
+-- The stamp is at most the actor's entry of the bound, if the event is a logged one.
+abbrev pub IsCovered : Bound → Event → Type 0
+IsCovered bound i = is_logged i ≡ true → i.stamp.0 ≤ bound i.actor.0
+
+-- The bound of an event covers every logged event that reaches it.
+abbrev pub BoundsCoverCauses : Type 0
+BoundsCoverCauses =
+    (entries : List Entry) → BoundsOrderTouches entries
+    → (before after : List Bounded) (b : Bounded) → bounded entries ≡ before ++ b ∷ after
+    → AllByRecursion (IsCovered b.bound) (reaching (events entries) (map the_event before) b.event)
+
+-- A writer's logged events.
+abbrev pub logged_by : ℕ → List Event → List Event
+logged_by writer all = filter (λ e. is_by writer e && is_logged e) all
+
+-- So what the full vector of an event counts of a writer, its first so many logged events, is under the event's bound.
+abbrev pub FullVectorsAreUnderBounds : Type 0
+FullVectorsAreUnderBounds =
+    (entries : List Entry) → BoundsOrderTouches entries
+    → (before after : List Bounded) (b : Bounded) → bounded entries ≡ before ++ b ∷ after
+    → (writer : ℕ)
+    → AllByRecursion (λ (i : Event). i.stamp.0 ≤ b.bound writer)
+    (take (full_vector (events entries) (map the_event before) b.event writer) (logged_by writer (events entries)))
+
+-- The cut of every scalar is closed.
+abbrev pub ScalarCutsAreClosed : Type 0
+ScalarCutsAreClosed = (entries : List Entry) → BoundsOrderTouches entries → (s : ℕ) → IsClosed (events entries) (upto s)
+
+-- The cut of every closed vector is closed.
+abbrev pub VectorCutsAreClosed : Type 0
+VectorCutsAreClosed =
+    (entries : List Entry) → BoundsOrderTouches entries → (v : Bound) → IsOwnCover entries v → IsClosed (events entries) (under v)
+
+-- ---- blocks
+
+-- A list in blocks whose ends come last in their transactions, and whose undone transactions restore each key, is clean.
+abbrev pub BlocksAreClean : Type 0
+BlocksAreClean = (all : List Event) → InBlocks all → EndsComeLast all → IsClean all
+
+-- At a closed cut of such a list the value of a key is that of the last run which has its transaction's end in the cut: the
+-- run's last value, which for an undone transaction is the restored one.
+abbrev pub ValueIsOfLastEnded : Type 0
+ValueIsOfLastEnded =
+    (all : List Event) (cut : Cut) → InBlocks all → EndsComeLast all → IsClosed all cut
+    → (key : RowKey) → value_at all cut key ≡ last_ended_at all cut key
+
+-- ---- rows
+
+-- At every cut the rows that are made one put after another are the rows at the cut, where each transaction's puts on a
+-- key stand together.
+abbrev pub RowsAreMadeInTurn : Type 0
+RowsAreMadeInTurn =
+    (entries : List Entry) (cut : Cut) → PutsStandTogether (events entries)
+    → (key : RowKey) → rows_in cut (groups entries) key ≡ row_at (events entries) cut key
+
+-- ---- cuts that are whole for pages
+
+abbrev pub ScalarCutsAreWhole : Type 0
+ScalarCutsAreWhole = (gs : List Group) → StampsRise gs → (s : ℕ) → IsWhole gs (upto s)
+
+abbrev pub VectorCutsAreWhole : Type 0
+VectorCutsAreWhole = (entries : List Entry) → BoundsOrderPages entries → (v : Bound) → IsOwnCover entries v → IsWhole (groups entries) (under v)
