@@ -19,6 +19,7 @@ use Rattle.tm_data.specs.declared.log.Record.{Record}
 use Rattle.tm_data.specs.declared.vector.VectorEntry.{VectorEntry}
 use Rattle.tm_data.specs.Vectors.{stamp_of}
 use Rattle.page_model.specs.Effects.{initial, redone_at, page_of, prev_of}
+pub use Rattle.tm_data.specs.Records.{changed_page}
 use Rattle.page_model.specs.contracts.link.Link as link
 pub use Rattle.page_model.specs.declared.link.Link.{Link}
 
@@ -99,10 +100,6 @@ or_no_links (Some links) = links
 abbrev pub links_of : Held → ℕ → List Link
 links_of pages page = or_no_links (get pages page)
 
--- The page that a record changes, 0 where it changes none.
-abbrev pub page_changed : Record → ℕ
-page_changed change = unwrap_or (page_of change) 0
-
 -- A link that is held changes nothing. Where another one of its page and stamp is held, it isn't taken.
 abbrev pub taken_again : Held → Bool → Option Held
 taken_again pages true = Some pages
@@ -114,7 +111,7 @@ taken_beside pages page new (Some old) = taken_again pages (same_link old new)
 
 -- The links of all pages with one more of the page that its record changes; none where it differs from one held.
 abbrev pub taken : Held → Link → Option Held
-taken pages new = taken_beside pages (page_changed new.change) new (held (links_of pages (page_changed new.change)) new.stamp.0)
+taken pages new = taken_beside pages (changed_page new.change) new (held (links_of pages (changed_page new.change)) new.stamp.0)
 
 -- A writer's record of this stamp.
 abbrev pub link_of : ℕ → ℕ → Record → Link
