@@ -9,6 +9,7 @@ use Rattle.tm_data.specs.declared.image.Image.{Image}
 use Rattle.tm_data.specs.declared.log.Record.{Record}
 use Rattle.tm_data.specs.declared.log.Record.TheVariants.{RowSet, Cut, Format, NodeAdd}
 use Rattle.tm_base.specs.Sizes.{row_size, size_with}
+pub use Rattle.tm_data.specs.Records.{changed_page}
 use Rattle.key_fences.specs.Fences.{key_less}
 use Rattle.page_model.specs.Effects.{row_set, page_of}
 use Rattle.page_model.specs.Tree.{Images, level_of, table_of, low_of, high_of}
@@ -85,10 +86,6 @@ page_above row [] = None
 page_above row (i ∷ is) = cond (is_full row i.body) (page_above row is) (Some i)
 
 -- ---- records
-
--- The page that a record changes; 0 where it changes none, since no page has that number.
-abbrev pub changed_page : Record → ℕ
-changed_page change = unwrap_or (page_of change) 0
 
 -- A group's records are in the order of their pages.
 abbrev pub placed : Record → List Record → List Record

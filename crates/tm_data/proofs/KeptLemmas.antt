@@ -1,5 +1,5 @@
 -- Items in the order of their keys: where a key stands among them, and what stays in order.
-use Rattle.std.proofs.Common.{◌≡◌, ℕ, suc, zero, ◌+◌, ◌<◌, ◌≤◌, Bool, true, false, cond, List, [], ◌∷◌, ◌++◌, length, get_or, ◌-◌, take, drop, refl, sym, ap, ◌∙◌, subst, arith, inl, inr}
+use Rattle.std.proofs.Common.{◌≡◌, ℕ, suc, zero, ◌+◌, ◌<◌, ◌≤◌, Bool, true, false, cond, List, [], ◌∷◌, ◌++◌, length, get_or, ◌-◌, take, drop, Some, refl, sym, ap, ◌∙◌, subst, arith, inl, inr}
 use Rattle.std.proofs.lemmas.Bool.{cases_lt}
 use Rattle.std.specs.Prelude.{insert, slice_set, sum_by, min, IfSome}
 use Rattle.std.specs.List.{AllByRecursion}
@@ -24,7 +24,7 @@ module _ {A : Type 0} (key : A → List ℕ) where
   all_at P (x ∷ xs) zero d all lt = all.0
   all_at P (x ∷ xs) (suc i) d all lt = all_at P xs i d all.1 (omega arith)
 
-  ascend_at : (xs : List A) (i j : ℕ) (d : A) → Ascend key xs → i < j → j < length xs → key_less (key (get_or xs i d)) (key (get_or xs j d)) ≡ true
+  pub ascend_at : (xs : List A) (i j : ℕ) (d : A) → Ascend key xs → i < j → j < length xs → key_less (key (get_or xs i d)) (key (get_or xs j d)) ≡ true
   ascend_at [] i j d up lt within = absurd (omega arith)
   ascend_at (x ∷ xs) i zero d up lt within = absurd (omega arith)
   ascend_at (x ∷ xs) zero (suc j) d up lt within = all_at (λ y. key_less (key x) (key y) ≡ true) xs j d up.0 (omega arith)
@@ -161,6 +161,11 @@ module _ {A : Type 0} (key : A → List ℕ) where
       below_last : (x z : A) (zs : List A) (y : A) → AllByRecursion (λ v. key_less (key x) (key v) ≡ true) (z ∷ zs) → IfSome (last_key key (z ∷ zs)) (λ k. key_less k (key y) ≡ true) → key_less (key x) (key y) ≡ true
       below_last x z [] y all above = less_trans (key x) (key z) (key y) all.0 above
       below_last x z (w ∷ ws) y all above = below_last x w ws y all.1 above
+
+  pub last_pushed : (xs : List A) (y : A) → last_key key (xs ++ y ∷ []) ≡ Some (key y)
+  last_pushed [] y = refl
+  last_pushed (x ∷ []) y = refl
+  last_pushed (x ∷ z ∷ zs) y = last_pushed (z ∷ zs) y
 
   all_take : (P : A → Type 0) (n : ℕ) (xs : List A) → AllByRecursion P xs → AllByRecursion P (take n xs)
   all_take P zero xs all = tt

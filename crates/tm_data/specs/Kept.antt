@@ -1,5 +1,5 @@
 -- Items that are kept in the order of their keys.
-use Rattle.std.specs.Prelude.{◌≡◌, ◌≤◌, ℕ, suc, Bool, true, cond, List, [], ◌∷◌, Option, Some, None, filter, sum_by, insert, slice_set}
+use Rattle.std.specs.Prelude.{◌≡◌, ◌≤◌, ℕ, suc, Bool, true, cond, List, [], ◌∷◌, Option, Some, None, filter, sum_by, insert, slice_get, slice_set}
 use Rattle.std.specs.List.{AllByRecursion}
 use Rattle.tm_data.specs.Keys.{key_less}
 use Rattle.tm_data.specs.Words.{MOST}
@@ -41,6 +41,15 @@ place_in key items k = place (λ x. key_less (key x) k) (λ x. key_less k (key x
 abbrev pub put_at : {A : Type 0} → List A → A → KeyPlace → List A
 put_at xs x (At at) = slice_set xs at x
 put_at xs x (Before at) = insert xs at x
+
+-- The size of the item in a place, 0 where none is there.
+abbrev pub size_of : {A : Type 0} → (A → ℕ) → Option A → ℕ
+size_of size None = 0
+size_of size (Some x) = size x
+
+abbrev pub size_at : {A : Type 0} → (A → ℕ) → List A → KeyPlace → ℕ
+size_at size items (At at) = size_of size (slice_get items at)
+size_at size items (Before at) = 0
 
 -- ---- what is kept
 

@@ -3,7 +3,7 @@ ghost use Rattle.std.specs.Prelude.{◌≡◌, ◌+◌, ◌<◌, ◌≤◌, ◌�
 ghost use Rattle.std.specs.Option.{option_copied};
 ghost use Rattle.std.specs.List.Sorted.{IsPartitionPoint};
 ghost use Rattle.tm_data.specs.Keys.{key_less};
-ghost use Rattle.tm_data.specs.Kept.{Ascend, last_key, items_below, place_in, put_at};
+ghost use Rattle.tm_data.specs.Kept.{Ascend, last_key, items_below, place_in, put_at, size_at};
 ghost use Rattle.tm_data.specs.Words.{MOST};
 
 use crate::{Mem, NoMemory, TryCopy};
@@ -27,9 +27,10 @@ pub trait Keyed {
     fn key(&self) -> &[u8]
         ensures { result.now ≡ key self.now };
 
-    /// How many bytes it has when it is stored.
+    /// How many bytes it has when it is stored. Rows have the most, at most 1,101.
     fn size(&self) -> usize
-        ensures { result ≡ size self.now };
+        ensures value { result ≡ size self.now }
+        ensures most { result ≤ 1101 };
 }
 
 /// The place of a key in a list that ascends by key. Places are counted from 0.
@@ -138,6 +139,20 @@ impl<T: Keyed> KeyedList<T> {
         ensures { result ≡ sum_by T.size self.now }
     {
         self.total
+    }
+
+    /// The size of the item in a place, 0 where none is there.
+    pub fn size_at(&self, place: KeyPlace) -> usize
+        ensures value { result ≡ size_at T.size self.now place }
+        ensures most { result ≤ 1101 }
+    {
+        let KeyPlace::At(at) = place else {
+            return 0;
+        };
+        let Some(item) = self.items.get(at) else {
+            return 0;
+        };
+        item.size()
     }
 
     /// The sum of the sizes of the items with keys below this one.
