@@ -103,7 +103,7 @@ pub vectors_under : (entries : List Entry) → BoundsOrderTouches entries
 vectors_under entries h before after b split w =
     let found : List Event = reaching (events entries) (map the_event before) b.event in
     let whole : events entries ≡ map the_event before ++ b.event ∷ map the_event after =
-        events_bounded entries ∙ ap (map the_event) split ∙ map_append before (b ∷ after) in
+    events_bounded entries ∙ ap (map the_event) split ∙ map_append before (b ∷ after) in
     let front : IsFront (mine w) found (events entries) =
-        subst (IsFront (mine w) found) (sym whole) (reaching_front (events entries) w (map the_event before) (map the_event after) b.event) in
+    subst (IsFront (mine w) found) (sym whole) (reaching_front (events entries) w (map the_event before) (map the_event after) b.event) in
     subst (AllByRecursion (λ (i : Event). i.stamp.0 ≤ b.bound w)) (sym front) (mine_covered b.bound w found (covers_causes entries h before after b split))

@@ -7,3 +7,6 @@ pub mod CountLemmas
 pub mod BlockLemmas
 pub mod WholeLemmas
 pub mod RowLemmas
+pub mod KeptLists
+pub mod CloseClean
+pub mod CloseLemmas

@@ -1,4 +1,5 @@
 //! The laws of cuts, bounds, blocks and closes.
+ghost use Rattle.history_laws.specs.Closes.{ClosesKeepPremises};
 ghost use Rattle.history_laws.specs.Statements.{BlocksAreClean, BoundsCoverCauses, FullVectorsAreUnderBounds, RowsAreMadeInTurn, ScalarCutsAreClosed, ScalarCutsAreWhole, ValueIsOfLastEnded, VectorCutsAreClosed, VectorCutsAreWhole};
 
 /// Of all events that reach an event, by however long a chain of touches, the event's bound covers the
@@ -56,4 +57,11 @@ pub fn vector_cuts_are_whole_for_pages()
 /// that was there. Were the puts of two transactions on a key mixed, the row would have lost it.
 pub fn rows_are_made_in_turn()
     ensures { RowsAreMadeInTurn }
+{}
+
+/// What a close leaves has every premise of these laws again, if no struck entry touches a kept one of
+/// another writer, and no group of another writer stands on a version that a struck group made. A close that
+/// struck a group whose page another writer has changed since would leave groups that don't fit.
+pub fn closes_keep_the_premises()
+    ensures { ClosesKeepPremises }
 {}
