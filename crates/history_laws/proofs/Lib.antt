@@ -10,3 +10,5 @@ pub mod RowLemmas
 pub mod KeptLists
 pub mod CloseClean
 pub mod CloseLemmas
+pub mod CutRows
+pub mod CoverLemmas

@@ -9,7 +9,7 @@ use Rattle.key_model.specs.Causes.{reaching, full_vector}
 use Rattle.key_model.specs.Cuts.{Cut, upto, under, IsClosed, row_at, value_at, last_ended_at}
 use Rattle.key_model.specs.Clean.{IsClean}
 use Rattle.history_model.specs.History.{Bound, Entry, events, groups}
-use Rattle.history_model.specs.Bounds.{BoundsOrderTouches, Bounded, bounded, IsOwnCover}
+use Rattle.history_model.specs.Bounds.{AtMost, BoundsOrderTouches, Bounded, bounded, IsOwnCover, cover}
 use Rattle.history_model.specs.Images.{rows_in, IsWhole, StampsRise, BoundsOrderPages}
 use Rattle.history_model.specs.Blocks.{InBlocks, EndsComeLast, PutsStandTogether}
 
@@ -80,3 +80,19 @@ ScalarCutsAreWhole = (gs : List Group) → StampsRise gs → (s : ℕ) → IsWho
 
 abbrev pub VectorCutsAreWhole : Type 0
 VectorCutsAreWhole = (entries : List Entry) → BoundsOrderPages entries → (v : Bound) → IsOwnCover entries v → IsWhole (groups entries) (under v)
+
+-- ---- covers
+
+-- Of each group its bound is its own cover.
+abbrev pub BoundsAreCovers : List Entry → Type 0
+BoundsAreCovers entries = AllByRecursion (λ (e : Entry). IsOwnCover entries e.bound) entries
+
+-- The cover of a bound is at least it and, where each entry's bound is its own cover, its own cover, and it is at most each of
+-- these that is at least the bound.
+pub record IsLeastCover (entries : List Entry) (v u : Bound) : Type 0 where
+  pub least : AtMost v u
+  pub own : BoundsAreCovers entries → IsOwnCover entries u
+  pub most : (other : Bound) → AtMost v other → IsOwnCover entries other → AtMost u other
+
+abbrev pub CoversAreLeast : Type 0
+CoversAreLeast = (entries : List Entry) (v : Bound) → IsLeastCover entries v (cover entries v)

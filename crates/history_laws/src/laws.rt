@@ -1,6 +1,6 @@
 //! The laws of cuts, bounds, blocks and closes.
 ghost use Rattle.history_laws.specs.Closes.{ClosesKeepPremises};
-ghost use Rattle.history_laws.specs.Statements.{BlocksAreClean, BoundsCoverCauses, FullVectorsAreUnderBounds, RowsAreMadeInTurn, ScalarCutsAreClosed, ScalarCutsAreWhole, ValueIsOfLastEnded, VectorCutsAreClosed, VectorCutsAreWhole};
+ghost use Rattle.history_laws.specs.Statements.{BlocksAreClean, BoundsCoverCauses, CoversAreLeast, FullVectorsAreUnderBounds, RowsAreMadeInTurn, ScalarCutsAreClosed, ScalarCutsAreWhole, ValueIsOfLastEnded, VectorCutsAreClosed, VectorCutsAreWhole};
 
 /// Of all events that reach an event, by however long a chain of touches, the event's bound covers the
 /// logged ones. A bound that left out what its writer heard of others with a page would not.
@@ -64,4 +64,11 @@ pub fn rows_are_made_in_turn()
 /// struck a group whose page another writer has changed since would leave groups that don't fit.
 pub fn closes_keep_the_premises()
     ensures { ClosesKeepPremises }
+{}
+
+/// The cover of a bound is the least bound that is at least it and its own cover, as long as each entry's
+/// bound is its own cover. A cover made of the groups that the bound names, and not of those under them,
+/// is not its own.
+pub fn covers_are_least()
+    ensures { CoversAreLeast }
 {}
