@@ -12,3 +12,4 @@ pub mod CloseClean
 pub mod CloseLemmas
 pub mod CutRows
 pub mod CoverLemmas
+pub mod CleanLemmas

@@ -57,6 +57,10 @@ VectorCutsAreClosed =
 abbrev pub BlocksAreClean : Type 0
 BlocksAreClean = (all : List Event) → InBlocks all → EndsComeLast all → IsClean all
 
+-- And a clean list is such a list, each transaction's puts on a key standing together.
+abbrev pub CleanIsInBlocks : Type 0
+CleanIsInBlocks = (all : List Event) → IsClean all → InBlocks all × EndsComeLast all × PutsStandTogether all
+
 -- At a closed cut of such a list the value of a key is that of the last run which has its transaction's end in the cut: the
 -- run's last value, which for an undone transaction is the restored one.
 abbrev pub ValueIsOfLastEnded : Type 0

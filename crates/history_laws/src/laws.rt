@@ -1,6 +1,6 @@
 //! The laws of cuts, bounds, blocks and closes.
 ghost use Rattle.history_laws.specs.Closes.{ClosesKeepPremises};
-ghost use Rattle.history_laws.specs.Statements.{BlocksAreClean, BoundsCoverCauses, CoversAreLeast, FullVectorsAreUnderBounds, RowsAreMadeInTurn, ScalarCutsAreClosed, ScalarCutsAreWhole, ValueIsOfLastEnded, VectorCutsAreClosed, VectorCutsAreWhole};
+ghost use Rattle.history_laws.specs.Statements.{BlocksAreClean, BoundsCoverCauses, CleanIsInBlocks, CoversAreLeast, FullVectorsAreUnderBounds, RowsAreMadeInTurn, ScalarCutsAreClosed, ScalarCutsAreWhole, ValueIsOfLastEnded, VectorCutsAreClosed, VectorCutsAreWhole};
 
 /// Of all events that reach an event, by however long a chain of touches, the event's bound covers the
 /// logged ones. A bound that left out what its writer heard of others with a page would not.
@@ -31,6 +31,13 @@ pub fn vector_cuts_are_closed()
 /// transaction commits later, it would not be: the commit would enter values under those of others.
 pub fn blocks_are_clean()
     ensures { BlocksAreClean }
+{}
+
+/// A clean list is in blocks, its ends come last in their transactions, its undone transactions restore each
+/// key, and each transaction's puts on a key stand together: so the two ways to say it are one. A clean list
+/// that let a transaction end whose run was over by restoring would not be in blocks.
+pub fn clean_lists_are_in_blocks()
+    ensures { CleanIsInBlocks }
 {}
 
 /// At a closed cut of such a list the value of a key is that of the last run with its transaction's end in
