@@ -1,7 +1,7 @@
 -- A clean list is in blocks.
-use Rattle.std.proofs.Common.{◌≡◌, ◌⊎◌, ℕ, Bool, true, false, cond, ◌&&◌, ◌||◌, List, [], ◌∷◌, inl, inr, refl, sym, subst, ap, ◌∙◌}
+use Rattle.std.proofs.Common.{◌≡◌, ◌⊎◌, ℕ, Bool, true, false, ◌||◌, List, [], ◌∷◌, inl, inr, refl, sym, subst, ap, ◌∙◌}
 use Rattle.std.proofs.lemmas.Bool.{or_left, or_right, or_parts, false_from_ne_true, cases_Bool}
-use Rattle.std.specs.List.{AllByRecursion, list_any, cons_option}
+use Rattle.std.specs.List.{list_any, cons_option}
 use Rattle.std.specs.declared.option.Option.{Option}
 use Rattle.tm_data.specs.declared.transaction.Txn.{Txn}
 use Rattle.tm_data.specs.declared.row_map.RowKey.{RowKey}
@@ -12,8 +12,8 @@ use Rattle.key_model.specs.Steps.{row_of}
 use Rattle.key_model.specs.After.{same_txn, same_row}
 use Rattle.key_model.specs.Events.{ends, is_end_of, has_end}
 use Rattle.key_model.specs.Cuts.{Written, written, written_if, puts_on, wrote, wrote_last, Restores}
-use Rattle.key_model.specs.Clean.{IsOpen, MayEnd, IsOver, MayPut, MayFollow, CleanFrom, IsClean}
-use Rattle.history_model.specs.Blocks.{GoesOn, InOneRun, TogetherFrom, PutsStandTogether, IsOverIn, StandsInRun, InRun, InBlocksFrom, InBlocks, InTransaction, EndsComeLastFrom, EndsComeLast}
+use Rattle.key_model.specs.Clean.{IsOver, MayPut, MayFollow, CleanFrom, IsClean}
+use Rattle.history_model.specs.Blocks.{InOneRun, TogetherFrom, PutsStandTogether, IsOverIn, InRun, InBlocksFrom, InBlocks, InTransaction, EndsComeLastFrom, EndsComeLast}
 use Rattle.key_model.proofs.LawLemmas.{txn_is, txn_same, row_is, row_same}
 use Rattle.key_model.proofs.EventLemmas.{onto}
 
@@ -44,10 +44,12 @@ kind_passed : (key : RowKey) (u : Txn) (past : List Event) (actor : ℕ) (kind :
     → IsPassed u (cons_option (written key kind) (puts_on key past)) × (ends u kind ≡ false)
 kind_passed key u past actor (Read t table k) may p = (p, refl)
 kind_passed key u past actor (Put t table k x) may p = (put_passed key u t table k x past may p, refl)
-kind_passed key u past actor (End t committed) may p =
-    (p, false_from_ne_true (same_txn u t) (λ is.
-        let one : u ≡ t = txn_is u t is in
-        cc (may.last key (subst (λ v. wrote v (puts_on key past) ≡ true) one p.made), subst (λ v. wrote_last v (puts_on key past) ≡ false) one p.passed)))
+kind_passed key u past actor (End t committed) may p = (
+  p,
+  false_from_ne_true (same_txn u t) (λ is.
+      let one : u ≡ t = txn_is u t is in
+      cc (may.last key (subst (λ v. wrote v (puts_on key past) ≡ true) one p.made), subst (λ v. wrote_last v (puts_on key past) ≡ false) one p.passed)),
+)
 
 no_end : (key : RowKey) (u : Txn) (rest past : List Event) → CleanFrom past rest → IsPassed u (puts_on key past) → has_end u rest ≡ false
 no_end key u [] past clean p = refl
@@ -90,8 +92,8 @@ in_run all past rest e split clean actor (Put t table k x) is may =
     never : (w : Written) (ws : List Written) → puts_on (row_of table k) past ≡ w ∷ ws → has_end w.txn past ≡ false → wrote_last t (puts_on (row_of table k) past) ≡ false → has_end w.txn all ≡ false
     never w ws these open_ last =
         let more : puts_on (row_of table k) (e ∷ past) ≡ record { txn = t; value = x } ∷ puts_on (row_of table k) past =
-            ap (λ d. cons_option (written (row_of table k) d) (puts_on (row_of table k) past)) is
-            ∙ ap (λ b. cons_option (written_if b t x) (puts_on (row_of table k) past)) (row_same (row_of table k)) in
+        ap (λ d. cons_option (written (row_of table k) d) (puts_on (row_of table k) past)) is
+        ∙ ap (λ b. cons_option (written_if b t x) (puts_on (row_of table k) past)) (row_same (row_of table k)) in
         let passed : IsPassed w.txn (puts_on (row_of table k) (e ∷ past)) = subst (IsPassed w.txn) (sym more) (passed_by t x w ws (puts_on (row_of table k) past) these last) in
         let later : has_end w.txn rest ≡ false = no_end (row_of table k) w.txn rest (e ∷ past) clean passed in
         subst (λ es. has_end w.txn es ≡ false) (sym split)

@@ -129,7 +129,7 @@ module _ (writer length : ℕ) where
 
   -- ---- no event of the writer stays behind a struck group
 
-  abbrev Above : Group → Type 0
+  abbrev pub Above : Group → Type 0
   Above g = nat_eq writer g.writer.0 ≡ true → length < g.seq
 
   above_at : (g : Group) → Above g → (b : Bool) → nat_eq writer g.writer.0 ≡ b → (b && nat_le g.seq length) ≡ false
@@ -139,7 +139,7 @@ module _ (writer length : ℕ) where
   keeps_none : (g : Group) → Above g → (nat_eq writer g.writer.0 && nat_le g.seq length && some_event (events_of g)) ≡ false
   keeps_none g h = ap (λ b. b && some_event (events_of g)) (above_at g h (nat_eq writer g.writer.0) refl)
 
-  no_keeper : (entries : List Entry) → AllByRecursion Above (groups entries) → list_any (λ (e : Entry). keeps_reads writer length e.deed) entries ≡ false
+  pub no_keeper : (entries : List Entry) → AllByRecursion Above (groups entries) → list_any (λ (e : Entry). keeps_reads writer length e.deed) entries ≡ false
   no_keeper [] h = refl
   no_keeper (e ∷ later) h = by e.deed h (no_keeper later)
     where
@@ -149,11 +149,11 @@ module _ (writer length : ℕ) where
       by (Logs g) a rest = ap (λ b. b || list_any (λ (x : Entry). keeps_reads writer length x.deed) later) (keeps_none g a.0) ∙ rest a.1
 
   -- an event of a group has the group's mark
-  record OfGroup (g : Group) (j : Event) : Type 0 where
+  pub record OfGroup (g : Group) (j : Event) : Type 0 where
     pub is : mark_of j ≡ mark g
     pub logged : is_logged j ≡ true
 
-  of_group : (g : Group) (rs : List Record) → AllByRecursion (OfGroup g) (filter_map (event_of g) rs)
+  pub of_group : (g : Group) (rs : List Record) → AllByRecursion (OfGroup g) (filter_map (event_of g) rs)
   of_group g [] = tt
   of_group g (change.RowSet page prev table row ∷ rs) = (record { is = refl; logged = refl }, of_group g rs)
   of_group g (change.Cut page prev at ∷ rs) = of_group g rs
@@ -254,7 +254,7 @@ module _ (writer length : ℕ) where
         omega (arith, less, more))) (groups later) logs.0))
         none
 
-    rest_rise : (d : Deed) (gs : List Group) → LogsRise (cons_option (group_of d) gs) → LogsRise gs
+    pub rest_rise : (d : Deed) (gs : List Group) → LogsRise (cons_option (group_of d) gs) → LogsRise gs
     rest_rise (Reads w t key) gs h = h
     rest_rise (Logs g) gs h = h.1
 

@@ -1,13 +1,13 @@
 -- Covers of bounds.
-use Rattle.std.proofs.Common.{◌≡◌, ◌≤◌, ◌<◌, ◌⊎◌, ℕ, Bool, true, false, cond, nat_le, List, [], ◌∷◌, max, inl, inr, refl, sym, subst, ap, ◌∙◌, arith}
+use Rattle.std.proofs.Common.{◌≡◌, ◌≤◌, ◌<◌, ◌⊎◌, ℕ, Bool, true, false, nat_le, List, [], ◌∷◌, max, inl, inr, refl, sym, subst, ap, ◌∙◌, arith}
 use Rattle.std.proofs.lemmas.Bool.{cases_Bool}
 use Rattle.std.proofs.lemmas.Bool.Decides.{nat_tests}
 use Rattle.std.specs.List.{AllByRecursion}
 use Rattle.tm_data.specs.declared.log.Group.{Group}
 use Rattle.key_model.specs.Cuts.{under}
 use Rattle.history_model.specs.History.{Bound, Deed, Reads, Logs, Entry, has}
-use Rattle.history_model.specs.Bounds.{AtMost, nothing, join, has_under, where_under, cover, IsOwnCover}
-use Rattle.history_laws.specs.Statements.{BoundsAreCovers, IsLeastCover, CoversAreLeast}
+use Rattle.history_model.specs.Bounds.{AtMost, join, has_under, where_under, cover, IsOwnCover}
+use Rattle.history_laws.specs.Statements.{BoundsAreCovers, CoversAreLeast}
 use Rattle.history_laws.proofs.ListLemmas.{Among, among_all, all_map}
 use Rattle.history_laws.proofs.WholeLemmas.{both_of}
 
@@ -78,10 +78,11 @@ under_cover g (e ∷ entries) v h =
 -- what an entry under the bound has is at most the cover
 in_cover : (entries : List Entry) (v : Bound) → AllByRecursion (λ (e : Entry). has_under v e.deed ≡ true → AtMost e.bound (cover entries v)) entries
 in_cover [] v = tt
-in_cover (e ∷ entries) v =
-    ((λ is. subst (λ b. AtMost e.bound (join (where_under b e.bound) (cover entries v))) (sym is) (left_most e.bound (cover entries v))),
-    all_map (λ (i : Entry). has_under v i.deed ≡ true → AtMost i.bound (cover entries v)) (λ (i : Entry). has_under v i.deed ≡ true → AtMost i.bound (cover (e ∷ entries) v))
-        (λ i h is. trans i.bound (cover entries v) (cover (e ∷ entries) v) (h is) (right_most (where_under (has_under v e.deed) e.bound) (cover entries v))) entries (in_cover entries v))
+in_cover (e ∷ entries) v = (
+  (λ is. subst (λ b. AtMost e.bound (join (where_under b e.bound) (cover entries v))) (sym is) (left_most e.bound (cover entries v))),
+  all_map (λ (i : Entry). has_under v i.deed ≡ true → AtMost i.bound (cover entries v)) (λ (i : Entry). has_under v i.deed ≡ true → AtMost i.bound (cover (e ∷ entries) v))
+      (λ i h is. trans i.bound (cover entries v) (cover (e ∷ entries) v) (h is) (right_most (where_under (has_under v e.deed) e.bound) (cover entries v))) entries (in_cover entries v),
+)
 
 owns : (whole : List Entry) (v : Bound) → BoundsAreCovers whole → (i : Entry) → (AllByRecursion (λ (e : Entry). has_under e.bound i.deed ≡ true → AtMost i.bound e.bound) whole)
     → (has_under v i.deed ≡ true → AtMost i.bound (cover whole v)) → (d : Deed) → i.deed ≡ d → has_under (cover whole v) d ≡ true → AtMost i.bound (cover whole v)
@@ -99,9 +100,10 @@ owns whole v bounds i all most (Logs g) is h = by (under_cover g whole v h)
 turned : (whole part : List Entry) → AllByRecursion (λ (e : Entry). IsOwnCover part e.bound) whole
     → AllByRecursion (λ (i : Entry). AllByRecursion (λ (e : Entry). has_under e.bound i.deed ≡ true → AtMost i.bound e.bound) whole) part
 turned whole [] h = tt
-turned whole (i ∷ part) h =
-    (all_map (λ (e : Entry). IsOwnCover (i ∷ part) e.bound) (λ (e : Entry). has_under e.bound i.deed ≡ true → AtMost i.bound e.bound) (λ e c. c.0) whole h,
-    turned whole part (all_map (λ (e : Entry). IsOwnCover (i ∷ part) e.bound) (λ (e : Entry). IsOwnCover part e.bound) (λ e c. c.1) whole h))
+turned whole (i ∷ part) h = (
+  all_map (λ (e : Entry). IsOwnCover (i ∷ part) e.bound) (λ (e : Entry). has_under e.bound i.deed ≡ true → AtMost i.bound e.bound) (λ e c. c.0) whole h,
+  turned whole part (all_map (λ (e : Entry). IsOwnCover (i ∷ part) e.bound) (λ (e : Entry). IsOwnCover part e.bound) (λ e c. c.1) whole h),
+)
 
 all_own : (whole : List Entry) (v : Bound) → BoundsAreCovers whole → IsOwnCover whole (cover whole v)
 all_own whole v bounds =

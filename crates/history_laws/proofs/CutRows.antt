@@ -2,7 +2,7 @@
 use Rattle.std.proofs.Common.{◌≡◌, List, subst}
 use Rattle.key_model.specs.Cuts.{Cut, row_at}
 use Rattle.history_model.specs.History.{Entry, groups, events}
-use Rattle.history_model.specs.Images.{Rows, images_at, rows_in, AllFit, IsWhole}
+use Rattle.history_model.specs.Images.{Rows, images_at, rows_in}
 use Rattle.history_model.specs.Blocks.{PutsStandTogether}
 use Rattle.history_laws.specs.CutRows.{HasItsRows, CutsHaveTheRowsAtThem}
 use Rattle.history_laws.proofs.CutRuns.{cuts_have_rows}

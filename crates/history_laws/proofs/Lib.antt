@@ -13,3 +13,5 @@ pub mod CloseLemmas
 pub mod CutRows
 pub mod CoverLemmas
 pub mod CleanLemmas
+pub mod VectorLemmas
+pub mod CloseEvents

@@ -3,7 +3,7 @@ use Rattle.std.specs.Prelude.{◌≡◌, ℕ, ◌<◌, Bool, true, false, not, �
 use Rattle.std.specs.List.{AllByRecursion}
 use Rattle.tm_data.specs.declared.log.Group.{Group}
 use Rattle.key_model.specs.declared.events.Event.{Event}
-use Rattle.key_model.specs.Events.{is_by}
+use Rattle.key_model.specs.Events.{is_by, after_close}
 use Rattle.key_model.specs.Causes.{touches}
 use Rattle.key_model.specs.Cuts.{Cut}
 use Rattle.key_model.specs.Clean.{IsClean}
@@ -52,3 +52,8 @@ ClosesKeepPremises =
     (entries : List Entry) (writer length : ℕ) → HasPremises entries → LogsRise (groups entries)
     → StrikesNoCause (events entries) writer length entries → StrikesNoVersion writer length (groups entries)
     → HasPremises (closed writer length entries) × LogsRise (groups (closed writer length entries))
+
+-- The events of what such a close leaves are those that a close leaves of the event list.
+abbrev pub ClosesAreOfEvents : Type 0
+ClosesAreOfEvents =
+    (entries : List Entry) (writer length : ℕ) → LogsRise (groups entries) → events (closed writer length entries) ≡ after_close writer length (events entries)

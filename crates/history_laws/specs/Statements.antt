@@ -1,12 +1,12 @@
 -- What the laws say.
-use Rattle.std.specs.Prelude.{◌≡◌, ℕ, ◌≤◌, ◌&&◌, true, List, ◌∷◌, ◌++◌, map, take, filter}
+use Rattle.std.specs.Prelude.{◌≡◌, ◌↔◌, ℕ, ◌≤◌, length, ◌&&◌, true, List, ◌∷◌, ◌++◌, map, take, filter}
 use Rattle.std.specs.List.{AllByRecursion}
 use Rattle.tm_data.specs.declared.row_map.RowKey.{RowKey}
 use Rattle.tm_data.specs.declared.log.Group.{Group}
 use Rattle.key_model.specs.declared.events.Event.{Event}
 use Rattle.key_model.specs.Events.{is_logged, is_by}
 use Rattle.key_model.specs.Causes.{reaching, full_vector}
-use Rattle.key_model.specs.Cuts.{Cut, upto, under, IsClosed, row_at, value_at, last_ended_at}
+use Rattle.key_model.specs.Cuts.{Cut, is_in, upto, under, IsClosed, row_at, value_at, last_ended_at}
 use Rattle.key_model.specs.Clean.{IsClean}
 use Rattle.history_model.specs.History.{Bound, Entry, events, groups}
 use Rattle.history_model.specs.Bounds.{AtMost, BoundsOrderTouches, Bounded, bounded, IsOwnCover, cover}
@@ -50,6 +50,27 @@ ScalarCutsAreClosed = (entries : List Entry) → BoundsOrderTouches entries → 
 abbrev pub VectorCutsAreClosed : Type 0
 VectorCutsAreClosed =
     (entries : List Entry) → BoundsOrderTouches entries → (v : Bound) → IsOwnCover entries v → IsClosed (events entries) (under v)
+
+-- ---- closed cuts, counted
+
+-- How many logged events of a writer are in a cut.
+abbrev pub number_in : List Event → Cut → ℕ → ℕ
+number_in all cut writer = length (filter (is_in cut) (logged_by writer all))
+
+-- The cut has of each writer the first so many.
+abbrev pub TakesFirst : List Event → Cut → Type 0
+TakesFirst all cut = (writer : ℕ) → filter (is_in cut) (logged_by writer all) ≡ take (number_in all cut writer) (logged_by writer all)
+
+-- The full vector of each event of the cut is at most the cut in every entry.
+abbrev pub HoldsFullVectors : List Event → Cut → Type 0
+HoldsFullVectors all cut =
+    (before after : List Event) (j : Event) → all ≡ before ++ j ∷ after → is_in cut j ≡ true
+    → (writer : ℕ) → full_vector all before j writer ≤ number_in all cut writer
+
+-- A cut is closed exactly if it has of each writer the first so many events, and the full vectors of its events are at most
+-- these numbers.
+abbrev pub ClosedIsByFullVectors : Type 0
+ClosedIsByFullVectors = (all : List Event) (cut : Cut) → IsClosed all cut ↔ (TakesFirst all cut × HoldsFullVectors all cut)
 
 -- ---- blocks
 

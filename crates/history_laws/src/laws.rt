@@ -1,6 +1,6 @@
 //! The laws of cuts, bounds, blocks and closes.
-ghost use Rattle.history_laws.specs.Closes.{ClosesKeepPremises};
-ghost use Rattle.history_laws.specs.Statements.{BlocksAreClean, BoundsCoverCauses, CleanIsInBlocks, CoversAreLeast, FullVectorsAreUnderBounds, RowsAreMadeInTurn, ScalarCutsAreClosed, ScalarCutsAreWhole, ValueIsOfLastEnded, VectorCutsAreClosed, VectorCutsAreWhole};
+ghost use Rattle.history_laws.specs.Closes.{ClosesAreOfEvents, ClosesKeepPremises};
+ghost use Rattle.history_laws.specs.Statements.{BlocksAreClean, BoundsCoverCauses, CleanIsInBlocks, ClosedIsByFullVectors, CoversAreLeast, FullVectorsAreUnderBounds, RowsAreMadeInTurn, ScalarCutsAreClosed, ScalarCutsAreWhole, ValueIsOfLastEnded, VectorCutsAreClosed, VectorCutsAreWhole};
 
 /// Of all events that reach an event, by however long a chain of touches, the event's bound covers the
 /// logged ones. A bound that left out what its writer heard of others with a page would not.
@@ -24,6 +24,13 @@ pub fn scalar_cuts_are_closed()
 /// a group, and not what the group's writer had heard of others, leaves out causes.
 pub fn vector_cuts_are_closed()
     ensures { VectorCutsAreClosed }
+{}
+
+/// A cut is closed exactly if it has of each writer the first so many logged events, and the full vector of
+/// each of its events is at most these numbers: to be closed by touches and by counts is one. A full vector
+/// that counted direct touches alone would let a cut pass that lacks a cause of a cause.
+pub fn closed_is_by_full_vectors()
+    ensures { ClosedIsByFullVectors }
 {}
 
 /// A list in blocks whose ends come last in their transactions, and whose undone transactions restore
@@ -78,4 +85,10 @@ pub fn closes_keep_the_premises()
 /// is not its own.
 pub fn covers_are_least()
     ensures { CoversAreLeast }
+{}
+
+/// The events of what a close leaves of a history are those that a close leaves of its event list. A close that
+/// kept a read for a split that was logged after it would leave one more.
+pub fn closes_are_of_events()
+    ensures { ClosesAreOfEvents }
 {}
