@@ -2,7 +2,7 @@
 use Rattle.std.proofs.Common.{◌≡◌, ◌≢◌, ℕ, ◌≤◌, Bool, true, false, ◌&&◌, ◌||◌, not, cond, nat_eq, List, [], ◌∷◌, Option, Some, None, refl, sym, ap, ◌∙◌, subst, arith, inl, inr, ◌⊎◌}
 use Rattle.std.proofs.lemmas.Bool.Decides.{nat_tests}
 use Rattle.std.specs.Prelude.{is_some}
-use Rattle.std.specs.List.{AllByRecursion, Contains, list_any}
+use Rattle.std.specs.List.{AllByRecursion, Contains, list_any, filter}
 use Rattle.tm_data.specs.declared.transaction.Page.{Page}
 use Rattle.tm_data.specs.declared.transaction.Stamp.{Stamp}
 use Rattle.tm_data.specs.declared.row.Row.{Row}
@@ -17,7 +17,7 @@ use Rattle.key_model.specs.Steps.{row_of}
 use Rattle.key_model.specs.Cuts.{Cut}
 use Rattle.page_model.specs.Effects.{page_of, prev_of, row_set, redone_at, stamped, suiting}
 use Rattle.page_model.specs.Tree.{Images, level_of, is_of, may_hold}
-use Rattle.page_model.specs.Tiling.{is_named, changed, Has, Tiles, rows_of}
+use Rattle.page_model.specs.Tiling.{is_named, record_on, changed, Has, Tiles, rows_of}
 use Rattle.tree_laws.specs.Logs.{Finds}
 use Rattle.tree_laws.proofs.ListLemmas.{IsIn}
 use Rattle.tree_laws.proofs.ChainLemmas.{in_all}
@@ -28,9 +28,9 @@ use Rattle.tree_laws.proofs.FirstImages.{first_tiles, no_row, first_range}
 use Rattle.tree_laws.proofs.NamedPages.{fits_find, fits_alike}
 use Rattle.tree_laws.proofs.ReachLaw.{reached_tiles}
 use Rattle.history_model.specs.History.{has}
-use Rattle.history_model.specs.Images.{first_images, Rows, no_rows, row_put, rows_with, rows_if, rows_from, rows_in, record_of, images_after, images_if, images_from, images_at, GroupFits, FitFrom, AllFit, makes, changes_made, stands_on, IsWhole, Agrees}
+use Rattle.history_model.specs.Images.{first_images, Rows, no_rows, row_put, rows_with, rows_if, rows_from, rows_in, images_after, images_if, images_from, images_at, GroupFits, FitFrom, AllFit, makes, changes_made, stands_on, IsWhole, Agrees}
 use Rattle.history_laws.specs.CutRows.{AreTheRows, HasItsRows, CutsHaveTheirRows}
-use Rattle.history_laws.proofs.CutSteps.{FitsRows, fits_rows, on_same, RowsAre, Good, group_good}
+use Rattle.history_laws.proofs.CutSteps.{FitsRows, fits_rows, before_all, RowsAre, Good, group_good}
 
 -- ---- the row of a key is in the leaf that may hold it
 
@@ -102,7 +102,7 @@ module _ (whole : List Group) (cut : Cut) (is_whole : IsWhole whole cut) where
     pub among : IsIn group whole
     pub out : has cut group ≡ false
     pub change : Record
-    pub on : record_of p group.records ≡ Some change
+    pub on : record_on p group.records ≡ Some change
     pub image : Image
     pub held : full p ≡ Some image
     pub made : image.stamp.0 ≡ group.stamp.0
@@ -113,8 +113,8 @@ module _ (whole : List Group) (cut : Cut) (is_whole : IsWhole whole cut) where
   Follows full part = (p : ℕ) → (part p ≡ full p) ⊎ Lacks full p
 
   -- a group stands on the version that another made
-  stands_by : (p : ℕ) (h : Group) (r c : Record) (rs : List Record) (b : Bool) → is_named (page_of r) p ≡ b → cond b (Some r) (record_of p rs) ≡ Some c
-      → (d : Record) → record_of p h.records ≡ Some d → prev_of c ≡ h.stamp.0 → prev_of c ≢ 0 → (record_of p rs ≡ Some c → list_any (changes_made h) rs ≡ true) → list_any (changes_made h) (r ∷ rs) ≡ true
+  stands_by : (p : ℕ) (h : Group) (r c : Record) (rs : List Record) (b : Bool) → is_named (page_of r) p ≡ b → cond b (Some r) (record_on p rs) ≡ Some c
+      → (d : Record) → record_on p h.records ≡ Some d → prev_of c ≡ h.stamp.0 → prev_of c ≢ 0 → (record_on p rs ≡ Some c → list_any (changes_made h) rs ≡ true) → list_any (changes_made h) (r ∷ rs) ≡ true
   stands_by p h r c rs true named on d made same later rest = here
     where
       one : (x y : Record) → Some x ≡ Some y → x ≡ y
@@ -147,16 +147,13 @@ module _ (whole : List Group) (cut : Cut) (is_whole : IsWhole whole cut) where
       or_else true e = refl
       or_else false e = e
 
-  first_on : (p : ℕ) (r : Record) (rs : List Record) → record_of p (r ∷ rs) ≡ cond (is_named (page_of r) p) (Some r) (record_of p rs)
-  first_on p r rs = on_same p (r ∷ rs) ∙ ap (cond (is_named (page_of r) p) (Some r)) (sym (on_same p rs))
-
-  stands : (p : ℕ) (h : Group) (c d : Record) (rs : List Record) → record_of p rs ≡ Some c → record_of p h.records ≡ Some d → prev_of c ≡ h.stamp.0 → prev_of c ≢ 0 → list_any (changes_made h) rs ≡ true
+  stands : (p : ℕ) (h : Group) (c d : Record) (rs : List Record) → record_on p rs ≡ Some c → record_on p h.records ≡ Some d → prev_of c ≡ h.stamp.0 → prev_of c ≢ 0 → list_any (changes_made h) rs ≡ true
   stands p h c d [] on made same later = absurd (cc)
   stands p h c d (r ∷ rs) on made same later =
-      stands_by p h r c rs (is_named (page_of r) p) refl (sym (first_on p r rs) ∙ on) d made same later (λ e. stands p h c d rs e made same later)
+      stands_by p h r c rs (is_named (page_of r) p) refl on d made same later (λ e. stands p h c d rs e made same later)
 
   -- so a whole cut that has a group has on its pages the last versions
-  has_last : (g : Group) → IsIn g whole → has cut g ≡ true → (full part : Images) → Follows full part → (p : ℕ) (c : Record) → record_of p g.records ≡ Some c → Finds full g.stamp.0 p c → part p ≡ full p
+  has_last : (g : Group) → IsIn g whole → has cut g ≡ true → (full part : Images) → Follows full part → (p : ℕ) (c : Record) → record_on p g.records ≡ Some c → Finds full g.stamp.0 p c → part p ≡ full p
   has_last g among in_cut full part follows p c on f =
       elim (follows p) [
         | inl same ↦ same
@@ -187,27 +184,23 @@ module _ (whole : List Group) (cut : Cut) (is_whole : IsWhole whole cut) where
     abbrev next : Images
     next = images_after full g
 
-    unnamed : (images : Images) (p : ℕ) → record_of p g.records ≡ None → images_after images g p ≡ images p
+    unnamed : (images : Images) (p : ℕ) → record_on p g.records ≡ None → images_after images g p ≡ images p
     unnamed images p e = ap (λ o. changed (images p) o g.stamp.0) e
 
-    now_is : (p : ℕ) (c : Record) → record_of p g.records ≡ Some c → (f : Finds full g.stamp.0 p c) → next p ≡ Some f.new
+    now_is : (p : ℕ) (c : Record) → record_on p g.records ≡ Some c → (f : Finds full g.stamp.0 p c) → next p ≡ Some f.new
     now_is p c on f = ap (λ o. changed (full p) o g.stamp.0) on ∙ ap (λ o. changed o (Some c) g.stamp.0) f.was ∙ f.suits
 
     abbrev FindsAll : Type 0
-    FindsAll = (p : ℕ) (c : Record) → record_of p g.records ≡ Some c → Finds full g.stamp.0 p c
+    FindsAll = (p : ℕ) (c : Record) → record_on p g.records ≡ Some c → Finds full g.stamp.0 p c
 
     finds : GroupFits full g → FindsAll
-    finds fits p c on =
-        elim fits [
-          | inl f ↦ fits_find full g.stamp.0 g.records f.0 f.1 p c (sym (on_same p g.records) ∙ on)
-          | inr none ↦ absurd (let n = none p in cc)
-        ]
+    finds fits p c on = fits_find full g.stamp.0 g.records fits.0 fits.1 p c on
 
-    still_lacks : (p : ℕ) → record_of p g.records ≡ None → Lacks full p → Lacks next p
+    still_lacks : (p : ℕ) → record_on p g.records ≡ None → Lacks full p → Lacks next p
     still_lacks p e l = record { group = l.group; among = l.among; out = l.out; change = l.change; on = l.on; image = l.image; held = unnamed full p e ∙ l.held; made = l.made; later = l.later }
 
     -- a group that the cut hasn't
-    out_by : has cut g ≡ false → FindsAll → (p : ℕ) (o : Option Record) → record_of p g.records ≡ o → (part p ≡ next p) ⊎ Lacks next p
+    out_by : has cut g ≡ false → FindsAll → (p : ℕ) (o : Option Record) → record_on p g.records ≡ o → (part p ≡ next p) ⊎ Lacks next p
     out_by out all p None e = elim (s.follows p) [ inl same ↦ inl (same ∙ sym (unnamed full p e)) | inr l ↦ inr (still_lacks p e l) ]
     out_by out all p (Some c) e =
         let f = all p c e in
@@ -228,24 +221,20 @@ module _ (whole : List Group) (cut : Cut) (is_whole : IsWhole whole cut) where
     out_step out fits = record {
       full_good = group_good full fr s.full_good g fits fits_in;
       part_good = s.part_good;
-      follows = λ p. out_by out (finds fits) p (record_of p g.records) refl;
+      follows = λ p. out_by out (finds fits) p (record_on p g.records) refl;
     }
 
     -- a group that the cut has
     module _ (in_cut : has cut g ≡ true) (fits : GroupFits full g) where
-      agrees : (p : ℕ) (c : Record) → record_of p g.records ≡ Some c → part p ≡ full p
+      agrees : (p : ℕ) (c : Record) → record_on p g.records ≡ Some c → part p ≡ full p
       agrees p c on = has_last g among in_cut full part s.follows p c on (finds fits p c on)
 
       part_fits : GroupFits part g
-      part_fits =
-          elim fits [
-            | inl f ↦ inl (f.0, fits_alike full part g.stamp.0 g.records f.0 (λ p c on. agrees p c (on_same p g.records ∙ on)) f.1)
-            | inr none ↦ inr none
-          ]
+      part_fits = (fits.0, fits_alike full part g.stamp.0 g.records fits.0 (λ p c on. agrees p c on) fits.1)
 
       row_fits : (page : Page) (prev : Stamp) (of : ℕ) (row : Row) → g.records ≡ RowSet page prev of row ∷ [] → row ≡ row_put (pr (row_of of row.key)) row
       row_fits page prev of row e =
-          let on : record_of page.0 g.records ≡ Some (RowSet page prev of row) = ap (record_of page.0) e ∙ ap (λ b. cond b (Some (RowSet page prev of row)) None) (number_itself page.0) in
+          let on : record_on page.0 g.records ≡ Some (RowSet page prev of row) = ap (record_on page.0) e ∙ ap (λ b. cond b (Some (RowSet page prev of row)) None) (number_itself page.0) in
           let f = finds fits page.0 (RowSet page prev of row) on in
           let l = body_found page prev of row f.old f.new g.stamp.0 f.old.body refl f.suits in
           let range = s.full_good.range page.0 of f.old f.was l.of_it in
@@ -255,16 +244,16 @@ module _ (whole : List Group) (cut : Cut) (is_whole : IsWhole whole cut) where
           let same = same_row_there full part fr pr of a.0 b.0 a.1 b.1 page.0 f.old (record { held = f.was; of = l.of_it }) (record { held = held; of = l.of_it }) l.level row.key l.holds in
           fits_in page prev of row e ∙ ap (λ o. row_put o row) same
 
-      in_by : (p : ℕ) (o : Option Record) → record_of p g.records ≡ o → (images_after part g p ≡ next p) ⊎ Lacks next p
+      in_by : (p : ℕ) (o : Option Record) → record_on p g.records ≡ o → (images_after part g p ≡ next p) ⊎ Lacks next p
       in_by p None e =
           elim (s.follows p) [ inl same ↦ inl (unnamed part p e ∙ same ∙ sym (unnamed full p e)) | inr l ↦ inr (still_lacks p e l) ]
-      in_by p (Some c) e = inl (ap (λ o. changed o (record_of p g.records) g.stamp.0) (agrees p c e))
+      in_by p (Some c) e = inl (ap (λ o. changed o (record_on p g.records) g.stamp.0) (agrees p c e))
 
       in_step : State next (images_after part g) (rows_with fr g.records) (rows_with pr g.records)
       in_step = record {
         full_good = group_good full fr s.full_good g fits fits_in;
         part_good = group_good part pr s.part_good g part_fits row_fits;
-        follows = λ p. in_by p (record_of p g.records) refl;
+        follows = λ p. in_by p (record_on p g.records) refl;
       }
 
   -- ---- all groups
@@ -285,6 +274,27 @@ module _ (whole : List Group) (cut : Cut) (is_whole : IsWhole whole cut) where
       (in_step g among full part fr pr s fits_in e fit.0) fit.2)
       (λ e. run gs (images_after full g) part (rows_with fr g.records) pr (λ h i. all h (inr i)) (out_step g among full part fr pr s fits_in e fit.0) fit.2)
 
+  -- the groups of the cut fit one after another by themselves
+  fit_in_part : (g : Group) (gs : List Group) (part : Images) (pr : Rows) (b : Bool) → has cut g ≡ b
+      → (has cut g ≡ true → FitFrom part pr (g ∷ filter (has cut) gs)) → (has cut g ≡ false → FitFrom part pr (filter (has cut) gs))
+      → FitFrom part pr (cond b (g ∷ filter (has cut) gs) (filter (has cut) gs))
+  fit_in_part g gs part pr true e then other = then e
+  fit_in_part g gs part pr false e then other = other e
+
+  part_run : (gs : List Group) (full part : Images) (fr pr : Rows) → ((g : Group) → IsIn g gs → IsIn g whole) → State full part fr pr → FitFrom full fr gs → FitFrom part pr (filter (has cut) gs)
+  part_run [] full part fr pr all s fit = tt
+  part_run (g ∷ gs) full part fr pr all s fit =
+      let fits_in : FitsRows fr g.records = fits_rows fr g.records fit.1 in
+      let among : IsIn g whole = all g (inl refl) in
+      fit_in_part g gs part pr (has cut g) refl
+      (λ e. (let again : GroupFits part g = part_fits g among full part fr pr s fits_in e fit.0 in (
+        again,
+        before_all part pr g.stamp.0 g.records again.0 again.1 (row_fits g among full part fr pr s fits_in e fit.0),
+        part_run gs (images_after full g) (images_after part g) (rows_with fr g.records) (rows_with pr g.records) (λ h i. all h (inr i))
+            (in_step g among full part fr pr s fits_in e fit.0) fit.2,
+      )))
+      (λ e. part_run gs (images_after full g) part (rows_with fr g.records) pr (λ h i. all h (inr i)) (out_step g among full part fr pr s fits_in e fit.0) fit.2)
+
 first_good : Good first_images no_rows
 first_good = record {
   tables = λ table least most. (first_tiles table least most, record { each = λ key r g. cc; all = λ r h. absurd (no_row table least most r h) });
@@ -297,6 +307,10 @@ first_good = record {
 cut_good : (gs : List Group) (cut : Cut) → AllFit gs → IsWhole gs cut → Good (images_at cut gs) (rows_in cut gs)
 cut_good gs cut fit is_whole =
     run gs cut is_whole gs first_images first_images no_rows no_rows (λ g h. h) (record { full_good = first_good; part_good = first_good; follows = λ p. inl refl }) fit
+
+pub part_fit : (gs : List Group) (cut : Cut) → AllFit gs → IsWhole gs cut → AllFit (filter (has cut) gs)
+part_fit gs cut fit is_whole =
+    part_run gs cut is_whole gs first_images first_images no_rows no_rows (λ g h. h) (record { full_good = first_good; part_good = first_good; follows = λ p. inl refl }) fit
 
 -- ---- in the words of the law
 

@@ -23,7 +23,7 @@ use Rattle.tree_laws.proofs.ThereLemmas.{one_number}
 use Rattle.tree_laws.proofs.MapLemmas.{one_key_or}
 use Rattle.tree_laws.proofs.OtherTables.{fits_stays, other_stays}
 use Rattle.tree_laws.proofs.FitLemmas.{fits_tiles, put_sets, split_rows, root_rows}
-use Rattle.history_model.specs.Images.{Rows, row_put, row_with, rows_with, record_of, images_after, GroupFits, HasBefore}
+use Rattle.history_model.specs.Images.{Rows, row_put, row_with, rows_with, images_after, GroupFits, HasBefore}
 
 pub fun_same : {A B : Type 0} (f g : A → B) → ((x : A) → f x ≡ g x) → f ≡ g
 fun_same f g h = λ i x. h x i
@@ -98,7 +98,7 @@ three_none rows r s t a b c = placed_none rows r (placed s (t ∷ [])) a ∙ pla
 
 -- a group that names no page changes nothing
 abbrev pub NamesNone : List Record → Type 0
-NamesNone records = (page : ℕ) → record_of page records ≡ None
+NamesNone records = (page : ℕ) → record_on page records ≡ None
 
 named_not : (b : Bool) (r : Record) (o : Option Record) → cond b (Some r) o ≡ None → (b ≡ false) × (o ≡ None)
 named_not true r o h = cc
@@ -116,29 +116,9 @@ pub rows_stay : (rows : Rows) (records : List Record) → NamesNone records → 
 rows_stay rows [] none = refl
 rows_stay rows (r ∷ rs) none =
     ap (λ m. rows_with m rs) (first_none r rs none rows)
-    ∙ rows_stay rows rs (λ page. (named_not (is_named (page_of r) page) r (record_of page rs) (on_first r page rs ∙ none page)).1)
-  where
-    on_first : (r : Record) (page : ℕ) (rs : List Record) → cond (is_named (page_of r) page) (Some r) (record_of page rs) ≡ record_of page (r ∷ rs)
-    on_first (RowSet p prev of row) page rs = refl
-    on_first (Cut p prev at) page rs = refl
-    on_first (Format p prev new) page rs = refl
-    on_first (NodeAdd p prev key child) page rs = refl
-    on_first (End txn committed) page rs = refl
-    on_first Beat page rs = refl
+    ∙ rows_stay rows rs (λ page. (named_not (is_named (page_of r) page) r (record_on page rs) (none page)).1)
 
 -- ---- the images after a group
-
-pub on_same : (page : ℕ) (records : List Record) → record_of page records ≡ record_on page records
-on_same page [] = refl
-on_same page ((RowSet p prev of row) ∷ rs) = ap (λ o. cond (nat_eq p.0 page) (Some (RowSet p prev of row)) o) (on_same page rs)
-on_same page ((Cut p prev at) ∷ rs) = ap (λ o. cond (nat_eq p.0 page) (Some (Cut p prev at)) o) (on_same page rs)
-on_same page ((Format p prev new) ∷ rs) = ap (λ o. cond (nat_eq p.0 page) (Some (Format p prev new)) o) (on_same page rs)
-on_same page ((NodeAdd p prev key child) ∷ rs) = ap (λ o. cond (nat_eq p.0 page) (Some (NodeAdd p prev key child)) o) (on_same page rs)
-on_same page ((End txn committed) ∷ rs) = on_same page rs
-on_same page (Beat ∷ rs) = on_same page rs
-
-pub after_is : (images : Images) (g : Group) → images_after images g ≡ after images g.records g.stamp.0
-after_is images g = fun_same (images_after images g) (after images g.records g.stamp.0) (λ page. ap (λ o. changed (images page) o g.stamp.0) (on_same page g.records))
 
 pub images_stay : (images : Images) (g : Group) → NamesNone g.records → images_after images g ≡ images
 images_stay images g none = fun_same (images_after images g) images (λ page. ap (λ o. changed (images page) o g.stamp.0) (none page))
@@ -217,7 +197,7 @@ module _ (images : Images) (stamp : ℕ) (records : List Record) (of : ℕ) wher
   }
 
   pub names_none : IsOnNoPage records → NamesNone records
-  names_none s page = on_same page records ∙ ap (record_on page) s.is ∙ ap (λ o. cond (is_named o page) (Some s.change) None) s.names
+  names_none s page = ap (record_on page) s.is ∙ ap (λ o. cond (is_named o page) (Some s.change) None) s.names
 
   -- some image is of the table
   pub record HasImage : Type 0 where
@@ -267,6 +247,48 @@ module _ (images : Images) (stamp : ℕ) (records : List Record) (of : ℕ) wher
               (s.0, rows_keep images then rows (rows_with rows records) table s.1 (others_stay table differ d) is))
         ]
 
+-- ---- each put of a fitting group has what the rows before it give
+
+none_before : (rows : Rows) (r : Record) → page_of r ≡ None → HasBefore rows r
+none_before rows (RowSet page prev of row) h = absurd (cc h)
+none_before rows (Cut page prev at) h = tt
+none_before rows (Format page prev new) h = tt
+none_before rows (NodeAdd page prev key child) h = tt
+none_before rows (End txn committed) h = tt
+none_before rows Beat h = tt
+
+all_placed : (P : Record → Type 0) (r : Record) (rs : List Record) → P r → AllByRecursion P rs → AllByRecursion P (placed r rs)
+all_placed P r [] p h = (p, tt)
+all_placed P r (s ∷ rs) p h = by (nat_lt (changed_page s) (changed_page r)) (all_placed P r rs p h.1)
+  where
+    by : (b : Bool) → AllByRecursion P (placed r rs) → AllByRecursion P (cond b (s ∷ placed r rs) (r ∷ s ∷ rs))
+    by true rest = (h.0, rest)
+    by false rest = (p, (h.0, h.1))
+
+pub before_all : (images : Images) (rows : Rows) (stamp : ℕ) (records : List Record) (of : ℕ) → Fits images stamp records of → FitsRows rows records → AllByRecursion (HasBefore rows) records
+before_all images rows stamp records of fits fits_in =
+    elim fits [
+      | inl put ↦ (let s = put.2 in
+          subst (AllByRecursion (HasBefore rows)) (sym s.is) (fits_in put.1.page (record { 0 = put.1.stamp.0 }) (table_of put.1.body) put.0 s.is, tt))
+      | inr more ↦ elim more [
+        | inl one ↦ (let s = one.4 in
+            subst (AllByRecursion (HasBefore rows)) (sym s.is)
+            (let last : Record = NodeAdd one.1.page (record { 0 = one.1.stamp.0 }) one.2.separator one.3 in
+            let middle : Record = Format one.3 (record { 0 = 0 }) one.2.right in
+            all_placed (HasBefore rows) (Cut one.0.page (record { 0 = one.0.stamp.0 }) one.2.separator) (placed middle (last ∷ [])) tt
+            (all_placed (HasBefore rows) middle (last ∷ []) tt (tt, tt))))
+        | inr rest ↦ elim rest [
+          | inl top ↦ (let s = top.4 in
+              subst (AllByRecursion (HasBefore rows)) (sym s.is)
+              (let last : Record = Format top.3 (record { 0 = 0 }) top.1.right in
+              let middle : Record = Format top.2 (record { 0 = 0 }) top.1.left in
+              all_placed (HasBefore rows) (Format top.0.page top.0.stamp (root_over top.0.body top.1 top.2 top.3)) (placed middle (last ∷ [])) tt
+              (all_placed (HasBefore rows) middle (last ∷ []) tt (tt, tt))))
+          | inr none ↦ subst (AllByRecursion (HasBefore rows)) (sym none.is) (none_before rows none.change none.names, tt)
+        ]
+      ]
+    ]
+
 -- ---- all tables
 
 pub record Good (images : Images) (rows : Rows) : Type 0 where
@@ -296,10 +318,7 @@ module _ (images : Images) (rows : Rows) (good : Good images rows) (g : Group) w
 
   pub group_good : GroupFits images g → FitsRows rows g.records → Good (images_after images g) (rows_with rows g.records)
   group_good fits fits_in =
-      elim fits [
-        | inl f ↦ elim (does images g.stamp.0 g.records f.0 f.1) [
-          | inl none ↦ none_good none
-          | inr d ↦ subst (λ m. Good m (rows_with rows g.records)) (sym (after_is images g)) (fits_good images rows good g.stamp.0 g.records f.0 f.1 d fits_in)
-        ]
-        | inr none ↦ none_good none
+      elim (does images g.stamp.0 g.records fits.0 fits.1) [
+        | inl none ↦ none_good none
+        | inr d ↦ fits_good images rows good g.stamp.0 g.records fits.0 fits.1 d fits_in
       ]

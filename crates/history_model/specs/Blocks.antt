@@ -1,8 +1,6 @@
 -- Event lists in blocks: the puts of each key come in runs of one transaction each.
-use Rattle.std.specs.Prelude.{◌≡◌, ◌⊎◌, ℕ, Bool, true, false, cond, List, [], ◌∷◌}
+use Rattle.std.specs.Prelude.{◌≡◌, ◌⊎◌, ℕ, Bool, true, false, List, [], ◌∷◌}
 use Rattle.std.specs.List.{AllByRecursion}
-use Rattle.std.specs.declared.option.Option.{Option}
-use Rattle.std.specs.declared.option.Option.TheVariants.{None}
 use Rattle.tm_data.specs.declared.transaction.Txn.{Txn}
 use Rattle.tm_data.specs.declared.row_map.RowKey.{RowKey}
 use Rattle.key_model.specs.Steps.{row_of}
@@ -10,8 +8,28 @@ use Rattle.key_model.specs.declared.events.Event.{Event}
 use Rattle.key_model.specs.declared.events.EventKind.{EventKind}
 use Rattle.key_model.specs.declared.events.EventKind.TheVariants.{Read, Put, End}
 use Rattle.key_model.specs.Events.{is_of, is_by, has_end}
-use Rattle.key_model.specs.Cuts.{Cut, Written, within, puts_on, wrote, wrote_last, Restores}
+use Rattle.key_model.specs.Cuts.{Written, puts_on, wrote, wrote_last, Restores}
 use Rattle.key_model.specs.Clean.{IsOpen}
+
+-- ---- runs
+
+-- A transaction's puts on a key stand together: where it made one before, it made the last one.
+abbrev pub GoesOn : List Event → Txn → RowKey → Type 0
+GoesOn past t key = wrote t (puts_on key past) ≡ true → wrote_last t (puts_on key past) ≡ true
+
+abbrev pub InOneRun : List Event → EventKind → Type 0
+InOneRun past (Read t table key) = Unit {0}
+InOneRun past (Put t table key value) = GoesOn past t (row_of table key)
+InOneRun past (End t committed) = Unit {0}
+
+abbrev pub TogetherFrom : List Event → List Event → Type 0
+TogetherFrom past [] = Unit {0}
+TogetherFrom past (e ∷ events) = InOneRun past e.kind × TogetherFrom (e ∷ past) events
+
+abbrev pub PutsStandTogether : List Event → Type 0
+PutsStandTogether events = TogetherFrom [] events
+
+-- ---- blocks
 
 -- The run of the last put is over: its transaction has its end among the events before, or it has none in the whole list
 -- and the run's last put restores the value before its first.
@@ -22,7 +40,7 @@ IsOverIn all past (w ∷ ws) = (has_end w.txn past ≡ true) ⊎ ((has_end w.txn
 -- A put goes on with the run of its transaction, or begins one: then the transaction has none yet, and the run before is
 -- over.
 pub record StandsInRun (all past : List Event) (t : Txn) (key : RowKey) : Type 0 where
-  pub one : wrote t (puts_on key past) ≡ true → wrote_last t (puts_on key past) ≡ true
+  pub one : GoesOn past t key
   pub over : wrote_last t (puts_on key past) ≡ false → IsOverIn all past (puts_on key past)
 
 abbrev pub InRun : List Event → List Event → EventKind → Type 0
@@ -56,12 +74,3 @@ EndsComeLastFrom past (e ∷ events) = InTransaction past e.actor.0 e.kind × En
 
 abbrev pub EndsComeLast : List Event → Type 0
 EndsComeLast events = EndsComeLastFrom [] events
-
--- The value of the last put whose transaction has its end among the events; none where there is no such put. The last
--- put comes first here.
-abbrev pub last_ended : List Event → List Written → Option (List ℕ)
-last_ended past [] = None
-last_ended past (w ∷ ws) = cond (has_end w.txn past) w.value (last_ended past ws)
-
-abbrev pub last_ended_at : List Event → Cut → RowKey → Option (List ℕ)
-last_ended_at events cut key = last_ended (within cut events) (puts_on key (within cut events))

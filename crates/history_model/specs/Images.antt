@@ -1,5 +1,5 @@
 -- The images and the rows at a cut of a history.
-use Rattle.std.specs.Prelude.{◌≡◌, ◌≢◌, ◌⊎◌, ℕ, ◌<◌, ◌≤◌, Bool, true, false, cond, not, ◌&&◌, nat_eq, is_some, List, [], ◌∷◌, Contains}
+use Rattle.std.specs.Prelude.{◌≡◌, ◌≢◌, ℕ, ◌<◌, ◌≤◌, Bool, true, false, cond, not, ◌&&◌, nat_eq, is_some, List, [], ◌∷◌, Contains}
 use Rattle.std.specs.List.{AllByRecursion, list_any}
 use Rattle.std.specs.declared.option.Option.{Option}
 use Rattle.std.specs.declared.option.Option.TheVariants.{None, Some}
@@ -19,7 +19,7 @@ use Rattle.key_model.specs.After.{same_txn, same_row}
 use Rattle.key_model.specs.Cuts.{Cut, before_of}
 use Rattle.page_model.specs.Effects.{initial, page_of, prev_of}
 use Rattle.page_model.specs.Tree.{Images}
-use Rattle.page_model.specs.Tiling.{Fits, changed}
+use Rattle.page_model.specs.Tiling.{Fits, after, record_on}
 use Rattle.page_model.specs.Versions.{link_of}
 use Rattle.page_model.specs.declared.link.Link.{Link}
 use Rattle.history_model.specs.History.{Bound, Deed, Reads, Logs, Entry, has}
@@ -31,22 +31,9 @@ use Rattle.history_model.specs.Bounds.{AtMost}
 abbrev pub first_images : Images
 first_images page = Some (initial (record { 0 = page }))
 
--- The record changes the page. An end and a beat change none, not even page 0.
-abbrev pub is_page : ℕ → Option ℕ → Bool
-is_page page None = false
-is_page page (Some p) = nat_eq p page
-
-abbrev pub is_on : ℕ → Record → Bool
-is_on page r = is_page page (page_of r)
-
--- The record of a group on a page, of which there is one at most.
-abbrev pub record_of : ℕ → List Record → Option Record
-record_of page [] = None
-record_of page (r ∷ rs) = cond (is_on page r) (Some r) (record_of page rs)
-
 -- The images after a group.
 abbrev pub images_after : Images → Group → Images
-images_after images g page = changed (images page) (record_of page g.records) g.stamp.0
+images_after images g = after images g.records g.stamp.0
 
 abbrev pub images_if : Bool → Images → Group → Images
 images_if true images g = images_after images g
@@ -73,7 +60,7 @@ with_link g (Some r) links = link_of g.writer.0 g.stamp.0 r ∷ links
 -- The changes of a page, in the order of the list: each with its writer and its stamp.
 abbrev pub changes : ℕ → List Group → List Link
 changes page [] = []
-changes page (g ∷ gs) = with_link g (record_of page g.records) (changes page gs)
+changes page (g ∷ gs) = with_link g (record_on page g.records) (changes page gs)
 
 -- The stamp of the last change, 0 where there is none.
 abbrev pub last_stamp : ℕ → List Link → ℕ
@@ -134,9 +121,9 @@ rows_in cut gs = rows_from no_rows cut gs
 
 -- ---- what fits
 
--- A put, a split or a root's split of a table fits the images that it names; a group on no page always fits.
+-- The group fits the images in some table: it is a put, a split or a root's split there, or on no page.
 abbrev pub GroupFits : Images → Group → Type 0
-GroupFits images g = ((table : ℕ) × Fits images g.stamp.0 g.records table) ⊎ ((page : ℕ) → record_of page g.records ≡ None)
+GroupFits images g = (table : ℕ) × Fits images g.stamp.0 g.records table
 
 -- The `before` of a put is what the rows before it give.
 abbrev pub HasBefore : Rows → Record → Type 0
@@ -161,7 +148,7 @@ AllFit gs = FitFrom first_images no_rows gs
 -- The group made this version of the page.
 abbrev pub makes : Group → ℕ → Option ℕ → Bool
 makes g stamp None = false
-makes g stamp (Some page) = is_some (record_of page g.records) && nat_eq g.stamp.0 stamp
+makes g stamp (Some page) = is_some (record_on page g.records) && nat_eq g.stamp.0 stamp
 
 -- A record changes a version that the group made. A page's first version, at stamp 0, no group made.
 abbrev pub changes_made : Group → Record → Bool

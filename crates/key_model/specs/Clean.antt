@@ -6,7 +6,7 @@ use Rattle.tm_data.specs.declared.row_map.RowKey.{RowKey}
 use Rattle.key_model.specs.Steps.{row_of}
 use Rattle.key_model.specs.After.{same_txn}
 use Rattle.key_model.specs.Events.{Event, EventKind, Read, Put, End, is_of, is_by, has_end}
-use Rattle.key_model.specs.Cuts.{Written, puts_on, wrote, wrote_last, value_after, value_before, Restores}
+use Rattle.key_model.specs.Cuts.{Cut, IsClosed, Written, value_at, folded_at, puts_on, wrote, wrote_last, value_after, value_before, Restores}
 
 -- What each event of a clean list wants of those before it, the last of which comes first.
 
@@ -48,3 +48,9 @@ CleanFrom past (e ∷ events) = MayFollow past e.actor.0 e.kind × CleanFrom (e 
 -- A list is clean if each of its events may follow those before it.
 abbrev pub IsClean : List Event → Type 0
 IsClean events = CleanFrom [] events
+
+-- ---- the law of the map
+
+-- At every closed cut of a clean list the map is the fold of the committed transactions whose end is in the cut.
+abbrev pub MapIsFold : Type 0
+MapIsFold = (events : List Event) (cut : Cut) → IsClean events → IsClosed events cut → (key : RowKey) → value_at events cut key ≡ folded_at events cut key

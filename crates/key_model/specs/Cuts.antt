@@ -162,3 +162,14 @@ folded key (e ∷ past) = entered e.kind key past (folded key past)
 
 abbrev pub folded_at : List Event → Cut → RowKey → Option (List ℕ)
 folded_at events cut key = folded key (within cut events)
+
+-- ---- the last put that ended
+
+-- The value of the last put whose transaction has its end among the events; none where there is no such put. The last
+-- put comes first here.
+abbrev pub last_ended : List Event → List Written → Option (List ℕ)
+last_ended past [] = None
+last_ended past (w ∷ ws) = cond (has_end w.txn past) w.value (last_ended past ws)
+
+abbrev pub last_ended_at : List Event → Cut → RowKey → Option (List ℕ)
+last_ended_at events cut key = last_ended (within cut events) (puts_on key (within cut events))
