@@ -112,11 +112,12 @@ may_follow all past a q s (End t committed) at run last stand = record {
 
 clean_from : (all rest past : List Event) → all ≡ onto past rest → InBlocksFrom all past rest → EndsComeLastFrom past rest → AllStand all past → CleanFrom past rest
 clean_from all [] past split blocks last stand = tt
-clean_from all (e ∷ rest) past split blocks last stand =
-    (may_follow all past e.actor e.seq e.stamp e.kind
-        (λ p h. subst (λ es. list_any p es ≡ true) (sym split) (any_later p past (e ∷ rest) (or_left (p e) (list_any p rest) h)))
-        blocks.0 last.0 stand,
-    clean_from all rest (e ∷ past) split blocks.1 last.1 (kind_stands all past e.actor e.seq e.stamp e.kind blocks.0 stand))
+clean_from all (e ∷ rest) past split blocks last stand = (
+  may_follow all past e.actor e.seq e.stamp e.kind
+      (λ p h. subst (λ es. list_any p es ≡ true) (sym split) (any_later p past (e ∷ rest) (or_left (p e) (list_any p rest) h)))
+      blocks.0 last.0 stand,
+  clean_from all rest (e ∷ past) split blocks.1 last.1 (kind_stands all past e.actor e.seq e.stamp e.kind blocks.0 stand),
+)
 
 pub blocks_clean : (all : List Event) → InBlocks all → EndsComeLast all → IsClean all
 blocks_clean all blocks last = clean_from all all [] refl blocks last (λ key t h. absurd (cc h))

@@ -140,6 +140,6 @@ vector_closed entries h v own before after j split inside =
     let k = known entries h before after j split in
     let logged : (is_logged j ≡ true) × (nat_le j.stamp.0 (v j.actor.0) ≡ true) = and_parts _ _ inside in
     let most = at_split (Under v) k.front k.back k.of (subst (AllByRecursion (Under v)) k.split (all_under entries v own))
-        (ap is_logged k.is ∙ logged.0) (ap (λ (e : Event). nat_le e.stamp.0 (v e.actor.0)) k.is ∙ logged.1) in
+    (ap is_logged k.is ∙ logged.0) (ap (λ (e : Event). nat_le e.stamp.0 (v e.actor.0)) k.is ∙ logged.1) in
     all_map (IsCovered k.of.bound) (IsIn (under v))
     (λ e c is. le_is e.stamp.0 (v e.actor.0) (omega (arith, c is, most e.actor.0))) _ k.covers

@@ -13,7 +13,7 @@ use Rattle.history_laws.specs.Statements.{the_event, IsCovered, logged_by}
 use Rattle.history_laws.proofs.BoundLemmas.{covers_causes}
 use Rattle.history_laws.proofs.ClosedLemmas.{events_bounded}
 
-abbrev mine : ℕ → Event → Bool
+abbrev pub mine : ℕ → Event → Bool
 mine w e = is_by w e && is_logged e
 
 -- ---- a front of a list, counted
@@ -23,7 +23,7 @@ take_nothing [] = refl
 take_nothing (x ∷ xs) = refl
 
 -- The test's count of some items is the length of the front of a list that they are.
-abbrev IsFront : (Event → Bool) → List Event → List Event → Type 0
+abbrev pub IsFront : (Event → Bool) → List Event → List Event → Type 0
 IsFront p found all = take (length (filter p found)) (filter p all) ≡ filter p found
 
 front_more : (p : Event → Bool) (i : Event) (found all : List Event) → IsFront p found all → IsFront p (i ∷ found) (i ∷ all)
@@ -68,7 +68,7 @@ join_front all w i found rest h false is = by (cases_Bool (mine w i))
         (none_here (mine w) found (none_mine all w i (and_parts (is_by w i) (is_logged i) own).0 found is))
     by (inr other) = front_skip (mine w) i found rest other h
 
-reaching_front : (all : List Event) (w : ℕ) (before after : List Event) (j : Event) → IsFront (mine w) (reaching all before j) (before ++ j ∷ after)
+pub reaching_front : (all : List Event) (w : ℕ) (before after : List Event) (j : Event) → IsFront (mine w) (reaching all before j) (before ++ j ∷ after)
 reaching_front all w [] after j = front_more (mine w) j [] after (take_nothing (filter (mine w) after))
 reaching_front all w (i ∷ before) after j =
     let found : List Event = reaching all before j in
@@ -103,7 +103,7 @@ pub vectors_under : (entries : List Entry) → BoundsOrderTouches entries
 vectors_under entries h before after b split w =
     let found : List Event = reaching (events entries) (map the_event before) b.event in
     let whole : events entries ≡ map the_event before ++ b.event ∷ map the_event after =
-        events_bounded entries ∙ ap (map the_event) split ∙ map_append before (b ∷ after) in
+    events_bounded entries ∙ ap (map the_event) split ∙ map_append before (b ∷ after) in
     let front : IsFront (mine w) found (events entries) =
-        subst (IsFront (mine w) found) (sym whole) (reaching_front (events entries) w (map the_event before) (map the_event after) b.event) in
+    subst (IsFront (mine w) found) (sym whole) (reaching_front (events entries) w (map the_event before) (map the_event after) b.event) in
     subst (AllByRecursion (λ (i : Event). i.stamp.0 ≤ b.bound w)) (sym front) (mine_covered b.bound w found (covers_causes entries h before after b split))

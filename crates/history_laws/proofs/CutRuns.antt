@@ -2,7 +2,7 @@
 use Rattle.std.proofs.Common.{◌≡◌, ◌≢◌, ℕ, ◌≤◌, Bool, true, false, ◌&&◌, ◌||◌, not, cond, nat_eq, List, [], ◌∷◌, Option, Some, None, refl, sym, ap, ◌∙◌, subst, arith, inl, inr, ◌⊎◌}
 use Rattle.std.proofs.lemmas.Bool.Decides.{nat_tests}
 use Rattle.std.specs.Prelude.{is_some}
-use Rattle.std.specs.List.{AllByRecursion, Contains, list_any}
+use Rattle.std.specs.List.{AllByRecursion, Contains, list_any, filter}
 use Rattle.tm_data.specs.declared.transaction.Page.{Page}
 use Rattle.tm_data.specs.declared.transaction.Stamp.{Stamp}
 use Rattle.tm_data.specs.declared.row.Row.{Row}
@@ -30,7 +30,7 @@ use Rattle.tree_laws.proofs.ReachLaw.{reached_tiles}
 use Rattle.history_model.specs.History.{has}
 use Rattle.history_model.specs.Images.{first_images, Rows, no_rows, row_put, rows_with, rows_if, rows_from, rows_in, images_after, images_if, images_from, images_at, GroupFits, FitFrom, AllFit, makes, changes_made, stands_on, IsWhole, Agrees}
 use Rattle.history_laws.specs.CutRows.{AreTheRows, HasItsRows, CutsHaveTheirRows}
-use Rattle.history_laws.proofs.CutSteps.{FitsRows, fits_rows, RowsAre, Good, group_good}
+use Rattle.history_laws.proofs.CutSteps.{FitsRows, fits_rows, before_all, RowsAre, Good, group_good}
 
 -- ---- the row of a key is in the leaf that may hold it
 
@@ -274,6 +274,27 @@ module _ (whole : List Group) (cut : Cut) (is_whole : IsWhole whole cut) where
       (in_step g among full part fr pr s fits_in e fit.0) fit.2)
       (λ e. run gs (images_after full g) part (rows_with fr g.records) pr (λ h i. all h (inr i)) (out_step g among full part fr pr s fits_in e fit.0) fit.2)
 
+  -- the groups of the cut fit one after another by themselves
+  fit_in_part : (g : Group) (gs : List Group) (part : Images) (pr : Rows) (b : Bool) → has cut g ≡ b
+      → (has cut g ≡ true → FitFrom part pr (g ∷ filter (has cut) gs)) → (has cut g ≡ false → FitFrom part pr (filter (has cut) gs))
+      → FitFrom part pr (cond b (g ∷ filter (has cut) gs) (filter (has cut) gs))
+  fit_in_part g gs part pr true e then other = then e
+  fit_in_part g gs part pr false e then other = other e
+
+  part_run : (gs : List Group) (full part : Images) (fr pr : Rows) → ((g : Group) → IsIn g gs → IsIn g whole) → State full part fr pr → FitFrom full fr gs → FitFrom part pr (filter (has cut) gs)
+  part_run [] full part fr pr all s fit = tt
+  part_run (g ∷ gs) full part fr pr all s fit =
+      let fits_in : FitsRows fr g.records = fits_rows fr g.records fit.1 in
+      let among : IsIn g whole = all g (inl refl) in
+      fit_in_part g gs part pr (has cut g) refl
+      (λ e. (let again : GroupFits part g = part_fits g among full part fr pr s fits_in e fit.0 in (
+        again,
+        before_all part pr g.stamp.0 g.records again.0 again.1 (row_fits g among full part fr pr s fits_in e fit.0),
+        part_run gs (images_after full g) (images_after part g) (rows_with fr g.records) (rows_with pr g.records) (λ h i. all h (inr i))
+            (in_step g among full part fr pr s fits_in e fit.0) fit.2,
+      )))
+      (λ e. part_run gs (images_after full g) part (rows_with fr g.records) pr (λ h i. all h (inr i)) (out_step g among full part fr pr s fits_in e fit.0) fit.2)
+
 first_good : Good first_images no_rows
 first_good = record {
   tables = λ table least most. (first_tiles table least most, record { each = λ key r g. cc; all = λ r h. absurd (no_row table least most r h) });
@@ -286,6 +307,10 @@ first_good = record {
 cut_good : (gs : List Group) (cut : Cut) → AllFit gs → IsWhole gs cut → Good (images_at cut gs) (rows_in cut gs)
 cut_good gs cut fit is_whole =
     run gs cut is_whole gs first_images first_images no_rows no_rows (λ g h. h) (record { full_good = first_good; part_good = first_good; follows = λ p. inl refl }) fit
+
+pub part_fit : (gs : List Group) (cut : Cut) → AllFit gs → IsWhole gs cut → AllFit (filter (has cut) gs)
+part_fit gs cut fit is_whole =
+    part_run gs cut is_whole gs first_images first_images no_rows no_rows (λ g h. h) (record { full_good = first_good; part_good = first_good; follows = λ p. inl refl }) fit
 
 -- ---- in the words of the law
 

@@ -247,6 +247,48 @@ module _ (images : Images) (stamp : ℕ) (records : List Record) (of : ℕ) wher
               (s.0, rows_keep images then rows (rows_with rows records) table s.1 (others_stay table differ d) is))
         ]
 
+-- ---- each put of a fitting group has what the rows before it give
+
+none_before : (rows : Rows) (r : Record) → page_of r ≡ None → HasBefore rows r
+none_before rows (RowSet page prev of row) h = absurd (cc h)
+none_before rows (Cut page prev at) h = tt
+none_before rows (Format page prev new) h = tt
+none_before rows (NodeAdd page prev key child) h = tt
+none_before rows (End txn committed) h = tt
+none_before rows Beat h = tt
+
+all_placed : (P : Record → Type 0) (r : Record) (rs : List Record) → P r → AllByRecursion P rs → AllByRecursion P (placed r rs)
+all_placed P r [] p h = (p, tt)
+all_placed P r (s ∷ rs) p h = by (nat_lt (changed_page s) (changed_page r)) (all_placed P r rs p h.1)
+  where
+    by : (b : Bool) → AllByRecursion P (placed r rs) → AllByRecursion P (cond b (s ∷ placed r rs) (r ∷ s ∷ rs))
+    by true rest = (h.0, rest)
+    by false rest = (p, (h.0, h.1))
+
+pub before_all : (images : Images) (rows : Rows) (stamp : ℕ) (records : List Record) (of : ℕ) → Fits images stamp records of → FitsRows rows records → AllByRecursion (HasBefore rows) records
+before_all images rows stamp records of fits fits_in =
+    elim fits [
+      | inl put ↦ (let s = put.2 in
+          subst (AllByRecursion (HasBefore rows)) (sym s.is) (fits_in put.1.page (record { 0 = put.1.stamp.0 }) (table_of put.1.body) put.0 s.is, tt))
+      | inr more ↦ elim more [
+        | inl one ↦ (let s = one.4 in
+            subst (AllByRecursion (HasBefore rows)) (sym s.is)
+            (let last : Record = NodeAdd one.1.page (record { 0 = one.1.stamp.0 }) one.2.separator one.3 in
+            let middle : Record = Format one.3 (record { 0 = 0 }) one.2.right in
+            all_placed (HasBefore rows) (Cut one.0.page (record { 0 = one.0.stamp.0 }) one.2.separator) (placed middle (last ∷ [])) tt
+            (all_placed (HasBefore rows) middle (last ∷ []) tt (tt, tt))))
+        | inr rest ↦ elim rest [
+          | inl top ↦ (let s = top.4 in
+              subst (AllByRecursion (HasBefore rows)) (sym s.is)
+              (let last : Record = Format top.3 (record { 0 = 0 }) top.1.right in
+              let middle : Record = Format top.2 (record { 0 = 0 }) top.1.left in
+              all_placed (HasBefore rows) (Format top.0.page top.0.stamp (root_over top.0.body top.1 top.2 top.3)) (placed middle (last ∷ [])) tt
+              (all_placed (HasBefore rows) middle (last ∷ []) tt (tt, tt))))
+          | inr none ↦ subst (AllByRecursion (HasBefore rows)) (sym none.is) (none_before rows none.change none.names, tt)
+        ]
+      ]
+    ]
+
 -- ---- all tables
 
 pub record Good (images : Images) (rows : Rows) : Type 0 where

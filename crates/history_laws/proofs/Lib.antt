@@ -7,3 +7,11 @@ pub mod CountLemmas
 pub mod BlockLemmas
 pub mod WholeLemmas
 pub mod RowLemmas
+pub mod KeptLists
+pub mod CloseClean
+pub mod CloseLemmas
+pub mod CutRows
+pub mod CoverLemmas
+pub mod CleanLemmas
+pub mod VectorLemmas
+pub mod CloseEvents

@@ -1,10 +1,7 @@
 -- Lists: what is among the items, what some item passes, and splits.
 use Rattle.std.proofs.Common.{◌≡◌, ◌⊎◌, Bool, true, false, ◌||◌, List, [], ◌∷◌, ◌++◌, inl, inr, refl, sym, subst}
 use Rattle.std.specs.List.{AllByRecursion, list_any}
-
-abbrev pub Among : {A : Type 0} → A → List A → Type 0
-Among x [] = ⊥
-Among x (y ∷ ys) = (x ≡ y) ⊎ Among x ys
+pub use Rattle.page_model.specs.Lists.{Among}
 
 pub among_all : {A : Type 0} (R : A → Type 0) (x : A) (xs : List A) → AllByRecursion R xs → Among x xs → R x
 among_all R x [] h m = absurd m

@@ -136,9 +136,9 @@ records_in key cut g inside [] rest past rows agree all together = record { past
 records_in key cut g inside (change.RowSet page prev table new ∷ rs) rest past rows agree all together =
     let e : Event = event g (Put new.txn table new.key new.now) in
     let more : Agree key cut (row_with (change.RowSet page prev table new) rows) (e ∷ past) =
-        put_agree cut key rows g past page prev table new agree all together.0 ∙ ap (λ b. row_by key (puts_on key (cond b (e ∷ kept cut past) (kept cut past)))) (sym inside) in
+    put_agree cut key rows g past page prev table new agree all together.0 ∙ ap (λ b. row_by key (puts_on key (cond b (e ∷ kept cut past) (kept cut past)))) (sym inside) in
     let r = records_in key cut g inside rs rest (e ∷ past) (row_with (change.RowSet page prev table new) rows) more
-        (goes_at key past (Put new.txn table new.key new.now) together.0, all) together.1 in
+    (goes_at key past (Put new.txn table new.key new.now) together.0, all) together.1 in
     record { past = r.past; agree = r.agree; all = r.all; together = r.together; same = r.same }
 records_in key cut g inside (change.Cut page prev at ∷ rs) rest past rows agree all together = records_in key cut g inside rs rest past (row_with (change.Cut page prev at) rows) agree all together
 records_in key cut g inside (change.Format page prev body ∷ rs) rest past rows agree all together = records_in key cut g inside rs rest past (row_with (change.Format page prev body) rows) agree all together
@@ -146,9 +146,9 @@ records_in key cut g inside (change.NodeAdd page prev k child ∷ rs) rest past 
 records_in key cut g inside (change.End t committed ∷ rs) rest past rows agree all together =
     let e : Event = event g (End t committed) in
     let more : Agree key cut (row_with (change.End t committed) rows) (e ∷ past) =
-        agree ∙ ap (λ b. row_by key (puts_on key (cond b (e ∷ kept cut past) (kept cut past)))) (sym inside) in
+    agree ∙ ap (λ b. row_by key (puts_on key (cond b (e ∷ kept cut past) (kept cut past)))) (sym inside) in
     let r = records_in key cut g inside rs rest (e ∷ past) (row_with (change.End t committed) rows) more
-        (goes_at key past (End t committed) tt, all) together.1 in
+    (goes_at key past (End t committed) tt, all) together.1 in
     record { past = r.past; agree = r.agree; all = r.all; together = r.together; same = r.same }
 records_in key cut g inside (change.Beat ∷ rs) rest past rows agree all together = records_in key cut g inside rs rest past (row_with change.Beat rows) agree all together
 

@@ -29,7 +29,7 @@ made_at h prev None is = absurd (cc is)
 made_at h prev (Some p) is = let both = and_parts (is_some (record_on p h.records)) (nat_eq h.stamp.0 prev) is in grind (arith, nat_tests)
 
 -- a group stands on versions with lesser stamps
-below : (g h : Group) → AllByRecursion (λ (r : Record). prev_of r ≢ 0 → prev_of r < g.stamp.0) g.records → stands_on g h ≡ true → h.stamp.0 < g.stamp.0
+pub below : (g h : Group) → AllByRecursion (λ (r : Record). prev_of r ≢ 0 → prev_of r < g.stamp.0) g.records → stands_on g h ≡ true → h.stamp.0 < g.stamp.0
 below g h rise is =
     let w = any_all (changes_made h) (λ (r : Record). prev_of r ≢ 0 → prev_of r < g.stamp.0) g.records is rise in
     let both = and_parts (not (nat_eq (prev_of w.0) 0)) (makes h (prev_of w.0) (page_of w.0)) w.1 in
@@ -59,7 +59,7 @@ of_groups P Q f (e ∷ es) h = by e.deed refl (of_groups P Q f es h.1)
     by (Reads w t key) is rest = subst (λ d. AllByRecursion P (cons_option (group_of d) (groups es))) (sym is) rest
     by (Logs g) is rest = subst (λ d. AllByRecursion P (cons_option (group_of d) (groups es))) (sym is) (f g e is h.0, rest)
 
-both_of : {A : Type 0} (P Q : A → Type 0) (xs : List A) → AllByRecursion P xs → AllByRecursion Q xs → AllByRecursion (λ x. P x × Q x) xs
+pub both_of : {A : Type 0} (P Q : A → Type 0) (xs : List A) → AllByRecursion P xs → AllByRecursion Q xs → AllByRecursion (λ x. P x × Q x) xs
 both_of P Q [] h k = tt
 both_of P Q (x ∷ xs) h k = ((h.0, k.0), both_of P Q xs h.1 k.1)
 
@@ -70,10 +70,10 @@ vector_whole entries h v own =
     (λ g e is known inside. of_groups (λ (k : Group). stands_on g k ≡ true → has (under v) k ≡ true)
     (λ (i : Entry). (stands e.deed i.deed ≡ true → AtMost i.bound e.bound) × HasOwn i.bound i.deed)
     (λ k i was one st.
-        let most = known.1 (ap (has_under v) is ∙ inside) in
-        let less = one.0 ((λ n. stands (is n) (was n)) ∙ st) in
-        let mine : k.stamp.0 ≤ i.bound k.writer.0 = subst (HasOwn i.bound) was one.1 in
-        le_is k.stamp.0 (v k.writer.0) (omega (arith, mine, less k.writer.0, most k.writer.0)))
+    let most = known.1 (ap (has_under v) is ∙ inside) in
+    let less = one.0 ((λ n. stands (is n) (was n)) ∙ st) in
+    let mine : k.stamp.0 ≤ i.bound k.writer.0 = subst (HasOwn i.bound) was one.1 in
+    le_is k.stamp.0 (v k.writer.0) (omega (arith, mine, less k.writer.0, most k.writer.0)))
     entries (both_of (λ (i : Entry). stands e.deed i.deed ≡ true → AtMost i.bound e.bound) (λ (i : Entry). HasOwn i.bound i.deed) entries known.0 h.own))
     entries
     (both_of (λ (e : Entry). AllByRecursion (λ (i : Entry). stands e.deed i.deed ≡ true → AtMost i.bound e.bound) entries)

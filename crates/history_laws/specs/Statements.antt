@@ -1,15 +1,15 @@
 -- What the laws say.
-use Rattle.std.specs.Prelude.{◌≡◌, ℕ, ◌≤◌, ◌&&◌, true, List, ◌∷◌, ◌++◌, map, take, filter}
+use Rattle.std.specs.Prelude.{◌≡◌, ◌↔◌, ℕ, ◌≤◌, length, ◌&&◌, true, List, ◌∷◌, ◌++◌, map, take, filter}
 use Rattle.std.specs.List.{AllByRecursion}
 use Rattle.tm_data.specs.declared.row_map.RowKey.{RowKey}
 use Rattle.tm_data.specs.declared.log.Group.{Group}
 use Rattle.key_model.specs.declared.events.Event.{Event}
 use Rattle.key_model.specs.Events.{is_logged, is_by}
 use Rattle.key_model.specs.Causes.{reaching, full_vector}
-use Rattle.key_model.specs.Cuts.{Cut, upto, under, IsClosed, row_at, value_at, last_ended_at}
+use Rattle.key_model.specs.Cuts.{Cut, is_in, upto, under, IsClosed, row_at, value_at, last_ended_at}
 use Rattle.key_model.specs.Clean.{IsClean}
 use Rattle.history_model.specs.History.{Bound, Entry, events, groups}
-use Rattle.history_model.specs.Bounds.{BoundsOrderTouches, Bounded, bounded, IsOwnCover}
+use Rattle.history_model.specs.Bounds.{AtMost, BoundsOrderTouches, Bounded, bounded, IsOwnCover, cover}
 use Rattle.history_model.specs.Images.{rows_in, IsWhole, StampsRise, BoundsOrderPages}
 use Rattle.history_model.specs.Blocks.{InBlocks, EndsComeLast, PutsStandTogether}
 
@@ -51,11 +51,36 @@ abbrev pub VectorCutsAreClosed : Type 0
 VectorCutsAreClosed =
     (entries : List Entry) → BoundsOrderTouches entries → (v : Bound) → IsOwnCover entries v → IsClosed (events entries) (under v)
 
+-- ---- closed cuts, counted
+
+-- How many logged events of a writer are in a cut.
+abbrev pub number_in : List Event → Cut → ℕ → ℕ
+number_in all cut writer = length (filter (is_in cut) (logged_by writer all))
+
+-- The cut has of each writer the first so many.
+abbrev pub TakesFirst : List Event → Cut → Type 0
+TakesFirst all cut = (writer : ℕ) → filter (is_in cut) (logged_by writer all) ≡ take (number_in all cut writer) (logged_by writer all)
+
+-- The full vector of each event of the cut is at most the cut in every entry.
+abbrev pub HoldsFullVectors : List Event → Cut → Type 0
+HoldsFullVectors all cut =
+    (before after : List Event) (j : Event) → all ≡ before ++ j ∷ after → is_in cut j ≡ true
+    → (writer : ℕ) → full_vector all before j writer ≤ number_in all cut writer
+
+-- A cut is closed exactly if it has of each writer the first so many events, and the full vectors of its events are at most
+-- these numbers.
+abbrev pub ClosedIsByFullVectors : Type 0
+ClosedIsByFullVectors = (all : List Event) (cut : Cut) → IsClosed all cut ↔ (TakesFirst all cut × HoldsFullVectors all cut)
+
 -- ---- blocks
 
 -- A list in blocks whose ends come last in their transactions, and whose undone transactions restore each key, is clean.
 abbrev pub BlocksAreClean : Type 0
 BlocksAreClean = (all : List Event) → InBlocks all → EndsComeLast all → IsClean all
+
+-- And a clean list is such a list, each transaction's puts on a key standing together.
+abbrev pub CleanIsInBlocks : Type 0
+CleanIsInBlocks = (all : List Event) → IsClean all → InBlocks all × EndsComeLast all × PutsStandTogether all
 
 -- At a closed cut of such a list the value of a key is that of the last run which has its transaction's end in the cut: the
 -- run's last value, which for an undone transaction is the restored one.
@@ -80,3 +105,19 @@ ScalarCutsAreWhole = (gs : List Group) → StampsRise gs → (s : ℕ) → IsWho
 
 abbrev pub VectorCutsAreWhole : Type 0
 VectorCutsAreWhole = (entries : List Entry) → BoundsOrderPages entries → (v : Bound) → IsOwnCover entries v → IsWhole (groups entries) (under v)
+
+-- ---- covers
+
+-- Of each group its bound is its own cover.
+abbrev pub BoundsAreCovers : List Entry → Type 0
+BoundsAreCovers entries = AllByRecursion (λ (e : Entry). IsOwnCover entries e.bound) entries
+
+-- The cover of a bound is at least it and, where each entry's bound is its own cover, its own cover, and it is at most each of
+-- these that is at least the bound.
+pub record IsLeastCover (entries : List Entry) (v u : Bound) : Type 0 where
+  pub least : AtMost v u
+  pub own : BoundsAreCovers entries → IsOwnCover entries u
+  pub most : (other : Bound) → AtMost v other → IsOwnCover entries other → AtMost u other
+
+abbrev pub CoversAreLeast : Type 0
+CoversAreLeast = (entries : List Entry) (v : Bound) → IsLeastCover entries v (cover entries v)

@@ -17,19 +17,16 @@ use Rattle.key_fences.specs.Fences.{is_within}
 use Rattle.key_model.specs.Steps.{row_of}
 use Rattle.key_model.specs.After.{same_txn, same_row}
 use Rattle.key_model.specs.Cuts.{Cut, before_of}
-use Rattle.page_model.specs.Effects.{initial, page_of, prev_of}
+use Rattle.page_model.specs.Effects.{page_of, prev_of}
 use Rattle.page_model.specs.Tree.{Images}
 use Rattle.page_model.specs.Tiling.{Fits, after, record_on}
+pub use Rattle.page_model.specs.Tiling.{first_images}
 use Rattle.page_model.specs.Versions.{link_of}
 use Rattle.page_model.specs.declared.link.Link.{Link}
 use Rattle.history_model.specs.History.{Bound, Deed, Reads, Logs, Entry, has}
 use Rattle.history_model.specs.Bounds.{AtMost}
 
 -- ---- images
-
--- The first version of each page.
-abbrev pub first_images : Images
-first_images page = Some (initial (record { 0 = page }))
 
 -- The images after a group.
 abbrev pub images_after : Images → Group → Images

@@ -39,7 +39,7 @@ has_causes events cut closed past rest j split inside =
 
 -- ---- the puts of a key that the cut has
 
-in_from : (cut : Cut) (e : Event) → is_logged e ≡ true → IsIn cut e → is_in cut e ≡ true
+pub in_from : (cut : Cut) (e : Event) → is_logged e ≡ true → IsIn cut e → is_in cut e ≡ true
 in_from cut e logged h = and_from (is_logged e) (cut (mark_of e)) logged (h logged)
 
 -- Each put on the key is in the cut.
@@ -200,19 +200,19 @@ abbrev pub IsFold : RowKey → List Event → Type 0
 IsFold key past = folded key past ≡ value_by past (puts_on key past)
 
 -- What is known at an event of the cut: what touches it is in the cut, and the events before it are of the list.
-record Here (events : List Event) (cut : Cut) (past : List Event) (e : Event) : Type 0 where
+pub record Here (events : List Event) (cut : Cut) (past : List Event) (e : Event) : Type 0 where
   pub causes : AllByRecursion (λ i. touches events i e ≡ true → IsIn cut i) past
   pub all : AllHaveCauses events cut past
   pub sub : (p : Event → Bool) → list_any p past ≡ true → list_any p events ≡ true
 
 module _ (events : List Event) (cut : Cut) (past : List Event) (a : Writer) (q : ℕ) (s : Stamp) where
-  abbrev at : EventKind → Event
+  abbrev pub at : EventKind → Event
   at kind = record { actor = a; seq = q; stamp = s; kind = kind }
 
-  put_on : (t : Txn) (table : ℕ) (k : List ℕ) (x : Option (List ℕ)) → IsPutOn (row_of table k) (Put t table k x) (record { txn = t; value = x })
+  pub put_on : (t : Txn) (table : ℕ) (k : List ℕ) (x : Option (List ℕ)) → IsPutOn (row_of table k) (Put t table k x) (record { txn = t; value = x })
   put_on t table k x = is_put_on (row_of table k) (Put t table k x) (record { txn = t; value = x }) (ap (λ b. written_if b t x) (row_same (row_of table k)))
 
-  over_kept : (t : Txn) (table : ℕ) (k : List ℕ) (x : Option (List ℕ)) → Here events cut past (at (Put t table k x)) → (ws : List Written)
+  pub over_kept : (t : Txn) (table : ℕ) (k : List ℕ) (x : Option (List ℕ)) → Here events cut past (at (Put t table k x)) → (ws : List Written)
       → puts_on (row_of table k) past ≡ ws → IsOver past ws → IsOver (kept cut past) ws
   over_kept t table k x here [] is over = tt
   over_kept t table k x here (w ∷ ws) is over = by over
@@ -261,12 +261,12 @@ module _ (events : List Event) (cut : Cut) (past : List Event) (a : Writer) (q :
           (fold_ ∙ sym (unended (at (Put t table k x)) (kept cut past) (puts_on key (kept cut past)) (λ u. refl)))
 
   -- where the transaction of an end made a put on the key, it made the last one
-  record Ended (key : RowKey) (t : Txn) (committed : Bool) : Type 0 where
+  pub record Ended (key : RowKey) (t : Txn) (committed : Bool) : Type 0 where
     pub last : wrote_last t (puts_on key (kept cut past)) ≡ true
     pub none : has_end t (kept cut past) ≡ false
     pub undone : committed ≡ false → Restores t (puts_on key (kept cut past))
 
-  end_here : (key : RowKey) (t : Txn) (committed : Bool) → MayEnd past a.0 t committed → Here events cut past (at (End t committed))
+  pub end_here : (key : RowKey) (t : Txn) (committed : Bool) → MayEnd past a.0 t committed → Here events cut past (at (End t committed))
       → wrote t (puts_on key (kept cut past)) ≡ true → Ended key t committed
   end_here key t committed may here wrote_it =
       let whole : wrote t (puts_on key past) ≡ true = wrote_kept cut key t past wrote_it in

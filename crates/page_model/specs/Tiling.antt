@@ -13,7 +13,7 @@ use Rattle.tm_data.specs.declared.image.Image.{Image}
 use Rattle.tm_data.specs.declared.log.Record.{Record}
 use Rattle.tm_base.specs.Sizes.{size_with}
 use Rattle.key_fences.specs.Fences.{is_within, is_strictly_within}
-use Rattle.page_model.specs.Effects.{row_set, cut_at, child_added, redone_at, page_of}
+use Rattle.page_model.specs.Effects.{initial, row_set, cut_at, child_added, redone_at, page_of}
 use Rattle.page_model.specs.Tree.{Images, level_of, table_of, low_of, high_of, is_of, may_hold, children, child_for, there, one_below, root}
 use Rattle.page_model.specs.Splits.{Halves, spot_of, row_group, split_group, root_group}
 use Rattle.page_model.specs.Sound.{IsSound, IsSoundRow}
@@ -83,6 +83,10 @@ changed (Some image) (Some change) stamp = redone_at image change stamp
 -- The images after a group of this stamp. An image that its record doesn't suit is gone.
 abbrev pub after : Images → List Record → ℕ → Images
 after images group stamp page = changed (images page) (record_on page group) stamp
+
+-- The first version of each page.
+abbrev pub first_images : Images
+first_images page = Some (initial (record { 0 = page }))
 
 -- The images after groups with stamps from this one on.
 abbrev pub after_all : Images → List (List Record) → ℕ → Images

@@ -4,13 +4,9 @@ use Rattle.std.specs.List.{AllByRecursion}
 use Rattle.tm_data.specs.declared.transaction.Page.{Page}
 use Rattle.tm_data.specs.declared.row.Row.{Row}
 use Rattle.tm_data.specs.declared.image.Image.{Image}
-use Rattle.page_model.specs.Effects.{initial}
 use Rattle.page_model.specs.Tree.{Images, level_of, may_hold}
 use Rattle.page_model.specs.Tiling.{Has, HasRow, rows_of, blank_page}
-
--- The first version of each page.
-abbrev pub first_images : Images
-first_images page = Some (initial (record { 0 = page }))
+pub use Rattle.page_model.specs.Tiling.{first_images}
 
 -- Some of a set's images, as a master has them in memory: each that the part has the whole has, and the same one.
 abbrev pub IsPartOf : Images → Images → Type 0
