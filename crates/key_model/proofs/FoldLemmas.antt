@@ -220,9 +220,9 @@ module _ (events : List Event) (cut : Cut) (past : List Event) (a : Writer) (q :
       by : (has_end w.txn past ≡ true) ⊎ Restores w.txn (w ∷ ws) → (has_end w.txn (kept cut past) ≡ true) ⊎ Restores w.txn (w ∷ ws)
       by (inl ended) =
           let wrote_it : wrote w.txn (puts_on (row_of table k) past) ≡ true =
-              ap (wrote w.txn) is ∙ or_left (same_txn w.txn w.txn) (wrote w.txn ws) (txn_same w.txn) in
+          ap (wrote w.txn) is ∙ or_left (same_txn w.txn w.txn) (wrote w.txn ws) (txn_same w.txn) in
           let conflict = here.sub (λ e. is_of w.txn e && conflicts e (at (Put t table k x)))
-              (wrote_conflicts (row_of table k) (at (Put t table k x)) (record { txn = t; value = x }) (put_on t table k x) w.txn past wrote_it) in
+          (wrote_conflicts (row_of table k) (at (Put t table k x)) (record { txn = t; value = x }) (put_on t table k x) w.txn past wrote_it) in
           inl (any_kept (is_end_of w.txn) (is_in cut) past
           (all_map (λ i. touches events i (at (Put t table k x)) ≡ true → IsIn cut i) (λ i. is_end_of w.txn i ≡ true → is_in cut i ≡ true)
           (λ i h ends_it. in_from cut i (end_logged w.txn i ends_it) (h (end_touches events w.txn i (at (Put t table k x)) ends_it conflict))) past here.causes) ended)
@@ -236,13 +236,13 @@ module _ (events : List Event) (cut : Cut) (past : List Event) (a : Writer) (q :
       let ws : List Written = puts_on key (kept cut past) in
       let mine : Written = record { txn = t; value = x } in
       let agree : ws ≡ puts_on key past =
-          all_puts cut key past
-          (all_map (λ i. touches events i (at (Put t table k x)) ≡ true → IsIn cut i) (PutsAreIn cut key)
-          (λ i h v is. let p = is_put_on key i.kind v is in in_from cut i p.logged (h (put_touches events key i (at (Put t table k x)) v mine p (put_on t table k x)))) past here.causes) in
+      all_puts cut key past
+      (all_map (λ i. touches events i (at (Put t table k x)) ≡ true → IsIn cut i) (PutsAreIn cut key)
+      (λ i h v is. let p = is_put_on key i.kind v is in in_from cut i p.logged (h (put_touches events key i (at (Put t table k x)) v mine p (put_on t table k x)))) past here.causes) in
       let none : has_end t (kept cut past) ≡ false = none_kept (is_end_of t) (is_in cut) past may.open_ in
       let together : wrote t ws ≡ true → wrote_last t ws ≡ true = subst (λ vs. wrote t vs ≡ true → wrote_last t vs ≡ true) (sym agree) may.together in
       let over : wrote_last t ws ≡ false → IsOver (kept cut past) ws =
-          λ h. over_kept t table k x here ws (sym agree) (subst (IsOver past) (sym agree) (may.over (ap (wrote_last t) (sym agree) ∙ h))) in
+      λ h. over_kept t table k x here ws (sym agree) (subst (IsOver past) (sym agree) (may.over (ap (wrote_last t) (sym agree) ∙ h))) in
       fold_ ∙ put_value (kept cut past) t ws none together over ∙ sym (ap (λ b. cond b x (value_before t (mine ∷ ws))) none)
 
   put_step : (key : RowKey) (t : Txn) (table : ℕ) (k : List ℕ) (x : Option (List ℕ)) → MayPut past t (row_of table k)
@@ -272,7 +272,7 @@ module _ (events : List Event) (cut : Cut) (past : List Event) (a : Writer) (q :
       let whole : wrote t (puts_on key past) ≡ true = wrote_kept cut key t past wrote_it in
       let last : wrote_last t (puts_on key past) ≡ true = may.last key whole in
       let agree : puts_on key (kept cut past) ≡ puts_on key past =
-          puts_kept events cut key past here.all (last_own events cut key (at (End t committed)) t past here.causes may.own last) in
+      puts_kept events cut key past here.all (last_own events cut key (at (End t committed)) t past here.causes may.own last) in
       record {
         last = ap (wrote_last t) agree ∙ last;
         none = none_kept (is_end_of t) (is_in cut) past may.once;
@@ -343,7 +343,7 @@ module _ (events : List Event) (cut : Cut) (past : List Event) (a : Writer) (q :
           let more : puts_on key (e ∷ kept cut past) ≡ mine ∷ ws = ap (λ b. cons_option (written_if b t x) ws) is in
           let none : has_end t (kept cut past) ≡ false = none_kept (is_end_of t) (is_in cut) past may.open_ in
           let value : value_by (e ∷ kept cut past) (puts_on key (e ∷ kept cut past)) ≡ value_by (kept cut past) ws =
-              sym (put_step events cut past a q s key t table k x may here fold_) ∙ fold_ in
+          sym (put_step events cut past a q s key t table k x may here fold_) ∙ fold_ in
           ap (last_ended (e ∷ kept cut past)) more
           ∙ ap (λ b. cond b x (last_ended (e ∷ kept cut past) ws)) none
           ∙ unended_last e (kept cut past) ws (λ u. refl) ∙ last ∙ sym value
