@@ -1,1 +1,3 @@
 mod MapLemmas
+mod KeyLemmas
+mod IndexLemmas

@@ -1,30 +1,58 @@
 //! The desk at which a master's leases lie.
 ghost use Rattle.std.specs.Prelude.{◌≡◌, ◌<◌, ◌↔◌, IsTrue, IfOk, OnOk, OnErr};
 ghost use Rattle.std.specs.FinMap.{empty};
+ghost use Rattle.std.specs.Prelude.{◌≤◌, ◌^◌, ℕ, true, IsSome, nat_eq};
+ghost use Rattle.std.specs.FinMap as map;
+ghost use Rattle.lease_desk.specs.declared.lease.Lease.TheVariants as lease;
+ghost use Rattle.lease_desk.specs.Inside.{has_rank, IsNextRanked, key};
 ghost use Rattle.lease_desk.specs.Desk.{lease_of, granted, recalled, changed, releasing, released, is_ready, IsNext};
 
+use crate::key_set::KeySet;
 use crate::lease_map::LeaseMap;
 use crate::{Lease, PageLease};
 use std::alloc::Global;
 use std::marker::Model;
-use tm_base::{Mem, Page, Stamp};
+use tm_base::{Mem, NoMemory, Page, Stamp};
 
 /// The leases of a master. Contracts see a finite map from page to what is kept of it.
 ///
 /// A call for a page whose state or epoch isn't the one that the call speaks of changes nothing.
+///
+/// Beside the leases it keeps the pages that are leased by the state of their lease, so that the next page
+/// in a state is found without a walk over the others. Only a grant takes memory: a page that comes into
+/// another state takes its own former place among them.
 #[derive(Drop)]
 pub struct Desk {
     leases: LeaseMap,
+    ranked: KeySet,
 }
 
 impl Model for Desk {
     ghost use Rattle.lease_desk.specs.Desk.{Leases, coded_leases};
+    ghost use Rattle.lease_desk.specs.Inside.{IsIndexed};
 
     ghost Value = { Leases };
 
     ghost coded = { coded_leases };
 
     ghost view = { λ d. d.leases };
+
+    ghost invariant = { λ d. IsIndexed d.leases d.ranked };
+}
+
+// The ranks of the states, by which the pages that are leased are kept.
+const HELD: u64 = 0;
+
+const RECALLED: u64 = 1;
+
+const RELEASING: u64 = 2;
+
+/// The number under which a page is kept with those of a rank.
+fn key_of(rank: u64, page: u32) -> u64
+    requires { rank ≤ 3 }
+    ensures { result ≡ key rank page }
+{
+    rank * 4294967296 + page as u64
 }
 
 impl Desk {
@@ -34,6 +62,7 @@ impl Desk {
     {
         Desk {
             leases: LeaseMap::new(alloc),
+            ranked: KeySet::new(alloc),
         }
     }
 
@@ -83,7 +112,12 @@ impl Desk {
             state: Lease::Held,
             stamp,
         };
-        self.leases.put(page.0, lease)?;
+        match self.state(page) {
+            Lease::None => self.begin(page.0, lease)?,
+            Lease::Held => self.keep(page.0, lease),
+            Lease::Recalled => self.turn(page.0, lease, RECALLED, HELD),
+            Lease::Releasing => self.turn(page.0, lease, RELEASING, HELD),
+        }
         Ok(true)
     }
 
@@ -100,7 +134,7 @@ impl Desk {
                 state: Lease::Recalled,
                 stamp: lease.stamp,
             };
-            self.leases.set(page.0, lease);
+            self.turn(page.0, lease, HELD, RECALLED);
         }
     }
 
@@ -117,7 +151,7 @@ impl Desk {
                 state: lease.state,
                 stamp,
             };
-            self.leases.set(page.0, lease);
+            self.keep(page.0, lease);
         }
     }
 
@@ -145,7 +179,7 @@ impl Desk {
                 state: Lease::Releasing,
                 stamp: lease.stamp,
             };
-            self.leases.set(page.0, lease);
+            self.turn(page.0, lease, RECALLED, RELEASING);
         }
     }
 
@@ -162,25 +196,37 @@ impl Desk {
                 state: Lease::None,
                 stamp: lease.stamp,
             };
-            self.leases.set(page.0, lease);
+            self.end(page.0, lease);
         }
     }
 
-    /// The least page with a number above `after` whose lease is in this state.
+    /// The least page with a number above `after` whose lease is in this state. It is found by halving; one
+    /// without a lease is found by counting past the leased pages behind `after`.
     pub fn next_in(&self, state: Lease, after: u32) -> Option<Page>
         ensures { IsNext self.now state after result }
     {
-        if matches!(state, Lease::None) {
-            return self.next_free(after);
+        if matches!(state, Lease::Held) {
+            return self.next_ranked(HELD, after);
         }
-        let mut at = after;
-        while let Some((page, lease)) = self.leases.first_after(at) {
-            if lease.state == state {
-                return Some(Page(page));
-            }
-            at = page;
+        if matches!(state, Lease::Recalled) {
+            return self.next_ranked(RECALLED, after);
         }
-        None
+        if matches!(state, Lease::Releasing) {
+            return self.next_ranked(RELEASING, after);
+        }
+        self.next_free(after)
+    }
+
+    /// The least page above `after` whose lease is in the state of a rank.
+    fn next_ranked(&self, rank: u64, after: u32) -> Option<Page>
+        requires { rank < 3 }
+        ensures { IsNextRanked self.now rank after result }
+    {
+        let found = self.ranked.first_from(key_of(rank, after) + 1)?;
+        if found >= key_of(rank + 1, 0) {
+            return None;
+        }
+        Some(Page((found - key_of(rank, 0)) as u32))
     }
 
     /// The least page above `after` that has no lease.
@@ -195,5 +241,52 @@ impl Desk {
             }
         }
         None
+    }
+
+    /// A page that has no lease is held. With want of memory nothing changes.
+    fn begin(&mut self, page: u32, kept: PageLease) -> Mem<()>
+        requires free { (lease_of self.old page).state ≡ lease.None }
+        requires held { kept.state ≡ lease.Held }
+        ensures ok { OnOk result (self.new ≡ map.insert self.old page kept) }
+        ensures err { OnErr result (self.new ≡ self.old) }
+    {
+        let key = key_of(HELD, page);
+        self.ranked.add(key)?;
+        if self.leases.put(page, kept).is_err() {
+            self.ranked.remove(key);
+            return Err(NoMemory);
+        }
+        Ok(())
+    }
+
+    /// A leased page stays in its state.
+    fn keep(&mut self, page: u32, kept: PageLease)
+        requires there { IsSome (map.get self.old page) }
+        requires same { kept.state ≡ (lease_of self.old page).state }
+        ensures { self.new ≡ map.insert self.old page kept }
+    {
+        self.leases.set(page, kept);
+    }
+
+    /// A leased page comes from the state of one rank into that of another.
+    fn turn(&mut self, page: u32, kept: PageLease, from: u64, to: u64)
+        requires ranks { (from < 3) × (to < 3) }
+        requires old { (rank : ℕ) → has_rank (lease_of self.old page).state rank ≡ nat_eq rank from }
+        requires new { (rank : ℕ) → has_rank kept.state rank ≡ nat_eq rank to }
+        requires other { from ≡ to → ⊥ }
+        ensures { self.new ≡ map.insert self.old page kept }
+    {
+        self.ranked.replace(key_of(from, page), key_of(to, page));
+        self.leases.set(page, kept);
+    }
+
+    /// The lease of a page that is being released is over.
+    fn end(&mut self, page: u32, kept: PageLease)
+        requires old { (lease_of self.old page).state ≡ lease.Releasing }
+        requires new { kept.state ≡ lease.None }
+        ensures { self.new ≡ map.insert self.old page kept }
+    {
+        self.ranked.remove(key_of(RELEASING, page));
+        self.leases.set(page, kept);
     }
 }

@@ -7,6 +7,7 @@
 #![tactic(auto)]
 
 mod desk;
+mod key_set;
 mod lease;
 mod lease_map;
 #[cfg(test)]
