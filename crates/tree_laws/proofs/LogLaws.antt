@@ -13,7 +13,7 @@ use Rattle.page_model.specs.Tree.{Images, table_of}
 use Rattle.page_model.specs.Splits.{Halves, changed_page, placed, root_over}
 use Rattle.page_model.specs.Tiling.{Tiles, IsMap, PutsRow, Splits, SplitsRoot, IsOnNoPage, Fits, after}
 use Rattle.tree_laws.specs.Claims.{SameRows}
-use Rattle.tree_laws.specs.Reach.{TilesFromRoot, IsMapFromRoot}
+use Rattle.tree_laws.specs.Reach.{TilesFromRoot, IsMapFromRoot, without_strays}
 use Rattle.tree_laws.specs.Logs.{FitsLog, Rows, after_log, rows_with, rows_after, rows_after_log}
 use Rattle.tree_laws.proofs.ThereLemmas.{one_number}
 use Rattle.tree_laws.proofs.GroupLemmas.{nothing_changed}
@@ -21,6 +21,9 @@ use Rattle.tree_laws.proofs.OtherTables.{other_stays, still_rows}
 use Rattle.tree_laws.proofs.FitLemmas.{fits_tiles, put_sets, split_rows, root_rows}
 use Rattle.tree_laws.proofs.MapLemmas.{map_set}
 use Rattle.tree_laws.proofs.ReachLaw.{reached_tiles}
+use Rattle.tree_laws.proofs.ReachStrays.{strays_left, tiles_left, rows_left}
+use Rattle.tree_laws.proofs.ReachParts.{IsPart, tiles_from_root, rows_from_root}
+use Rattle.tree_laws.proofs.ReachPlan.{part_after}
 
 map_same : (old new : Images) (table : ℕ) (rows : Rows) → SameRows old new table → IsMap old table rows → IsMap new table rows
 map_same old new table rows same is = record {
@@ -142,3 +145,22 @@ pub map_from_root : (images : Images) (table : ℕ) (rows : Rows) → Tiles imag
 map_from_root images table rows tiles is =
     let r = reached_tiles images table tiles in
     (r.0, record { each = λ key row g. (let h = is.each key row g in ((r.1 row).0 h.0, h.1)); all = λ row h. is.all row ((r.1 row).1 h) })
+
+-- ---- said of what is reached, whatever stray pages there are
+
+part_after_log : (whole part : Images) (groups : List Group) → IsPart part whole → IsPart (after_log part groups) (after_log whole groups)
+part_after_log whole part [] is_part = is_part
+part_after_log whole part (g ∷ gs) is_part = part_after_log (after whole g.records g.stamp.0) (after part g.records g.stamp.0) gs (part_after whole part g.records g.stamp.0 is_part)
+
+pub log_reached : (images : Images) (groups : List Group) (table : ℕ) (rows : Rows) → FitsLog (without_strays images table) groups → TilesFromRoot images table → IsMapFromRoot images table rows
+    → TilesFromRoot (after_log images groups) table × IsMapFromRoot (after_log images groups) table (rows_after_log table rows groups)
+log_reached images groups table rows fit t is =
+    let left = without_strays images table in
+    let had = rows_left images table t in
+    let map_left : IsMap left table rows = record { each = λ key row g. (let h = is.each key row g in ((had row).0 h.0, h.1)); all = λ row h. is.all row ((had row).1 h) } in
+    let d = log_sets left groups table rows fit (tiles_left images table t) map_left in
+    let part = part_after_log images left groups (strays_left images table) in
+    let has = rows_from_root (after_log images groups) (after_log left groups) table part d.0 in (
+      tiles_from_root (after_log images groups) (after_log left groups) table part d.0,
+      record { each = λ key row g. (let h = d.1.each key row g in ((has row).0 h.0, h.1)); all = λ row h. d.1.all row ((has row).1 h) },
+    )

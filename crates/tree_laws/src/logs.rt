@@ -6,8 +6,8 @@ ghost use Rattle.tm_data.specs.declared.image.Image.{Image};
 ghost use Rattle.tm_data.specs.declared.log.Record.{Record};
 ghost use Rattle.tm_data.specs.declared.log.Group.{Group};
 ghost use Rattle.page_model.specs.Tree.{Images};
-ghost use Rattle.page_model.specs.Tiling.{Tiles, IsMap, Fits, record_on, after};
-ghost use Rattle.tree_laws.specs.Reach.{TilesFromRoot, IsMapFromRoot};
+ghost use Rattle.page_model.specs.Tiling.{Tiles, IsMap, IsOnNoPage, Fits, record_on, after};
+ghost use Rattle.tree_laws.specs.Reach.{TilesFromRoot, IsMapFromRoot, without_strays};
 ghost use Rattle.tree_laws.specs.Logs.{AgreeOn, Finds, FitsLog, Rows, after_log, rows_after, rows_after_log};
 
 /// Fitting depends on the images of the named pages alone: a group that fits some images fits all that have
@@ -32,6 +32,13 @@ pub fn no_image_goes()
         → Fits images stamp group table → images p ≡ Some image → IsSome (after images group stamp p) }
 {}
 
+/// A group on no page changes none, at page 0 neither. It refuses images after a group that take a record
+/// which names no page for one of page 0.
+pub fn a_group_on_no_page_changes_none()
+    ensures { (images : Images) (stamp : ℕ) (group : List Record) (p : ℕ)
+        → IsOnNoPage group → after images group stamp p ≡ images p }
+{}
+
 /// After a group that fits, in this table or another one, a table that was tiled is, and a table that was a
 /// finite map is one with the rows set that the group sets in it, and nothing else changed. It refuses
 /// rows that a split changes, or that a put sets in another table.
@@ -49,5 +56,16 @@ pub fn a_log_sets_its_rows()
         → FitsLog images groups → Tiles images table → IsMap images table rows
         → Tiles (after_log images groups) table × IsMap (after_log images groups) table (rows_after_log table rows groups)
         × TilesFromRoot (after_log images groups) table
+        × IsMapFromRoot (after_log images groups) table (rows_after_log table rows groups) }
+{}
+
+/// Where what is reached from a table's root tiles the table, it does after groups of any writers, each of
+/// which fits the images after those before it where the table's stray pages are left out; and the rows that
+/// are reached are those set, group by group. It refuses a split below a stray page that names a page which
+/// is reached.
+pub fn a_log_sets_what_is_reached()
+    ensures { (images : Images) (groups : List Group) (table : ℕ) (rows : Rows)
+        → FitsLog (without_strays images table) groups → TilesFromRoot images table → IsMapFromRoot images table rows
+        → TilesFromRoot (after_log images groups) table
         × IsMapFromRoot (after_log images groups) table (rows_after_log table rows groups) }
 {}
