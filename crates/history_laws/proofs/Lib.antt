@@ -15,3 +15,4 @@ pub mod CoverLemmas
 pub mod CleanLemmas
 pub mod VectorLemmas
 pub mod CloseEvents
+pub mod CloseCuts

@@ -7,9 +7,10 @@ use Rattle.key_model.specs.Events.{is_by, after_close}
 use Rattle.key_model.specs.Causes.{touches}
 use Rattle.key_model.specs.Cuts.{Cut}
 use Rattle.key_model.specs.Clean.{IsClean}
-use Rattle.history_model.specs.History.{Entry, groups, events, events_in, is_struck, closed}
-use Rattle.history_model.specs.Bounds.{BoundsOrderTouches}
-use Rattle.history_model.specs.Images.{AllFit, StampsRise, BoundsOrderPages, stands_on}
+use Rattle.history_model.specs.History.{Bound, Entry, groups, events, events_in, is_struck, closed}
+use Rattle.history_model.specs.Bounds.{BoundsOrderTouches, IsOwnCover}
+use Rattle.history_model.specs.Images.{AllFit, StampsRise, BoundsOrderPages, IsWhole, stands_on}
+use Rattle.history_laws.specs.Statements.{BoundsAreCovers}
 
 -- What the laws ask of a history: its groups fit one after another, stamps on a page rise, bounds order the groups of a
 -- page and the touches of events, and its event list is clean.
@@ -57,3 +58,13 @@ ClosesKeepPremises =
 abbrev pub ClosesAreOfEvents : Type 0
 ClosesAreOfEvents =
     (entries : List Entry) (writer length : ℕ) → LogsRise (groups entries) → events (closed writer length entries) ≡ after_close writer length (events entries)
+
+-- A bound that is its own cover is that of what a close leaves; so are the bounds of the entries; and a cut that is whole
+-- for pages is whole.
+pub record StaysWhole (entries rest : List Entry) : Type 0 where
+  pub covers : (v : Bound) → IsOwnCover entries v → IsOwnCover rest v
+  pub bounds : BoundsAreCovers entries → BoundsAreCovers rest
+  pub cuts : (cut : Cut) → IsWhole (groups entries) cut → IsWhole (groups rest) cut
+
+abbrev pub ClosesKeepCuts : Type 0
+ClosesKeepCuts = (entries : List Entry) (writer length : ℕ) → StaysWhole entries (closed writer length entries)

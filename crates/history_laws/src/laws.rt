@@ -1,5 +1,5 @@
 //! The laws of cuts, bounds, blocks and closes.
-ghost use Rattle.history_laws.specs.Closes.{ClosesAreOfEvents, ClosesKeepPremises};
+ghost use Rattle.history_laws.specs.Closes.{ClosesAreOfEvents, ClosesKeepCuts, ClosesKeepPremises};
 ghost use Rattle.history_laws.specs.Statements.{BlocksAreClean, BoundsCoverCauses, CleanIsInBlocks, ClosedIsByFullVectors, CoversAreLeast, FullVectorsAreUnderBounds, RowsAreMadeInTurn, ScalarCutsAreClosed, ScalarCutsAreWhole, ValueIsOfLastEnded, VectorCutsAreClosed, VectorCutsAreWhole};
 
 /// Of all events that reach an event, by however long a chain of touches, the event's bound covers the
@@ -91,4 +91,10 @@ pub fn covers_are_least()
 /// kept a read for a split that was logged after it would leave one more.
 pub fn closes_are_of_events()
     ensures { ClosesAreOfEvents }
+{}
+
+/// After any close a vector that was its own cover is one, and a cut that was whole for pages is. A closed vector
+/// that had to name stamps of groups that are there would not stay so: a close may take the group away.
+pub fn closes_keep_cuts()
+    ensures { ClosesKeepCuts }
 {}
