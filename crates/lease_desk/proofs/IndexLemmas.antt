@@ -4,7 +4,7 @@ use Rattle.std.specs.Prelude.{OnOk}
 use Rattle.std.specs.Result.{is_err}
 use Rattle.std.specs.declared.result.Result.{Result}
 use Rattle.std.specs.declared.result.Result.TheVariants.{Ok, Err}
-use Rattle.tm_data.specs.declared.memory.NoMemory.{NoMemory}
+use Rattle.tm_lists.specs.declared.memory.NoMemory.{NoMemory}
 use Rattle.std.specs.FinMap.{insert, gets}
 use Rattle.std.proofs.lemmas.Bool.Decides.{nat_tests}
 use Rattle.tm_data.specs.declared.transaction.Page.{Page}

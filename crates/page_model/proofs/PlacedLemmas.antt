@@ -7,10 +7,10 @@ use Rattle.tm_data.specs.declared.row.Row.{Row}
 use Rattle.tm_data.specs.declared.image.Child.{Child}
 use Rattle.tm_data.specs.declared.image.Body.{Body}
 use Rattle.tm_data.specs.declared.image.Body.TheVariants.{Leaf}
-use Rattle.tm_data.specs.declared.kept.KeyPlace.{KeyPlace}
-use Rattle.tm_data.specs.declared.kept.KeyPlace.TheVariants.{At, Before}
-use Rattle.tm_data.specs.Keys.{key_less}
-use Rattle.tm_data.specs.Kept.{further, put_at, size_at}
+use Rattle.tm_lists.specs.declared.kept.KeyPlace.{KeyPlace}
+use Rattle.tm_lists.specs.declared.kept.KeyPlace.TheVariants.{At, Before}
+use Rattle.tm_lists.specs.Keys.{key_less}
+use Rattle.tm_lists.specs.Kept.{further, put_at, size_at}
 use Rattle.tm_base.specs.Sizes.{MOST, row_size, size_with}
 use Rattle.page_model.specs.Effects.{row_set, entry_added, in_front}
 use Rattle.page_model.specs.Placed.{row_place, child_place, is_before, size_there, row_fits}

@@ -1,11 +1,11 @@
 -- The place of a key among rows and among entries, and what setting a row there makes of a page's size.
 use Rattle.std.specs.Prelude.{ℕ, Bool, true, false, ◌+◌, nat_le, List}
-use Rattle.tm_data.specs.declared.kept.KeyPlace.{KeyPlace}
-use Rattle.tm_data.specs.declared.kept.KeyPlace.TheVariants.{At, Before}
+use Rattle.tm_lists.specs.declared.kept.KeyPlace.{KeyPlace}
+use Rattle.tm_lists.specs.declared.kept.KeyPlace.TheVariants.{At, Before}
 use Rattle.tm_data.specs.declared.row.Row.{Row}
 use Rattle.tm_data.specs.declared.image.Child.{Child}
-use Rattle.tm_data.specs.Keys.{key_less}
-use Rattle.tm_data.specs.Kept.{place_in, size_at}
+use Rattle.tm_lists.specs.Keys.{key_less}
+use Rattle.tm_lists.specs.Kept.{place_in, size_at}
 use Rattle.tm_base.specs.Sizes.{row_size}
 
 -- The place of a key, by the keys of rows and of entries.

@@ -11,9 +11,9 @@ use Rattle.tm_data.specs.declared.image.Body.TheVariants.{Blank, Leaf, Inner}
 use Rattle.tm_base.specs.Sizes.{MOST, row_size, child_size, size_with}
 use Rattle.key_fences.specs.Fences.{key_less, is_within, is_strictly_within}
 use Rattle.page_model.specs.Effects.{row_set, rows_below, entries_below, entry_added, in_front, fitting, suiting, with_entries, row_set_in, cut_at, child_added}
-use Rattle.tm_data.specs.declared.kept.KeyPlace.{KeyPlace}
-use Rattle.tm_data.specs.declared.kept.KeyPlace.TheVariants.{At, Before}
-use Rattle.tm_data.specs.Kept.{put_at}
+use Rattle.tm_lists.specs.declared.kept.KeyPlace.{KeyPlace}
+use Rattle.tm_lists.specs.declared.kept.KeyPlace.TheVariants.{At, Before}
+use Rattle.tm_lists.specs.Kept.{put_at}
 use Rattle.page_model.specs.Placed.{child_place, is_before, size_there, row_fits}
 use Rattle.page_model.proofs.PlacedLemmas.{same_test, leaf_fits, added_is}
 use Rattle.page_redo.specs.Places.{child_set, row_put, child_put, cut_below}

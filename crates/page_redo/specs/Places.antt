@@ -7,9 +7,9 @@ use Rattle.tm_data.specs.declared.image.Body.TheVariants.{Blank, Leaf, Inner}
 use Rattle.tm_data.specs.declared.log.Record.{Record}
 use Rattle.tm_data.specs.declared.log.Record.TheVariants.{RowSet, NodeAdd}
 use Rattle.page_model.specs.Effects.{row_set, rows_below, entries_below}
-use Rattle.tm_data.specs.declared.kept.KeyPlace.{KeyPlace}
-use Rattle.tm_data.specs.declared.kept.KeyPlace.TheVariants.{Before}
-use Rattle.tm_data.specs.Kept.{put_at}
+use Rattle.tm_lists.specs.declared.kept.KeyPlace.{KeyPlace}
+use Rattle.tm_lists.specs.declared.kept.KeyPlace.TheVariants.{Before}
+use Rattle.tm_lists.specs.Kept.{put_at}
 use Rattle.page_model.specs.Placed.{row_place, child_place}
 
 -- ---- the place of a key

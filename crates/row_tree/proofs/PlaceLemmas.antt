@@ -6,8 +6,8 @@ use Rattle.std.specs.List.Sorted.{IsPartitionedBy}
 use Rattle.tm_data.specs.declared.image.Child.{Child}
 use Rattle.tm_data.specs.declared.transaction.Page.{Page}
 use Rattle.key_fences.specs.Fences.{key_less}
-use Rattle.tm_data.specs.Kept.{Ascend}
-use Rattle.tm_data.proofs.KeptLemmas.{ascend_at}
+use Rattle.tm_lists.specs.Kept.{Ascend}
+use Rattle.tm_lists.proofs.KeptLemmas.{ascend_at}
 use Rattle.page_model.specs.Tree.{Place, next_fence, entry_places, last_from, child_for}
 use Rattle.row_tree.specs.Inside.{ArePartedAt}
 use Rattle.page_model.proofs.KeyLemmas.{not_both, up_to_trans}

@@ -1,3 +1,1 @@
-pub mod KeyLemmas
-pub mod KeptLemmas
 pub mod VectorLemmas

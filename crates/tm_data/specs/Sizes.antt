@@ -4,7 +4,7 @@ use Rattle.tm_data.specs.declared.row.Row.{Row}
 use Rattle.tm_data.specs.declared.row.Before.{Before}
 use Rattle.tm_data.specs.declared.row.Before.TheVariants.{Same, Was}
 use Rattle.tm_data.specs.declared.image.Child.{Child}
-pub use Rattle.tm_data.specs.Words.{MOST}
+pub use Rattle.tm_lists.specs.Words.{MOST}
 
 -- two bytes for the length, which say where there is none
 abbrev pub value_size : Option (List ℕ) → ℕ

@@ -1,7 +1,7 @@
 use Rattle.std.proofs.Common.{None, Some, sym, ap, ◌∙◌}
 use Rattle.tm_data.specs.declared.row.Row.{Row}
-use Rattle.tm_data.specs.Kept.{last_key}
-use Rattle.tm_data.proofs.KeptLemmas.{last_pushed}
+use Rattle.tm_lists.specs.Kept.{last_key}
+use Rattle.tm_lists.proofs.KeptLemmas.{last_pushed}
 use Rattle.std.specs.Option.{option_copied}
 use Rattle.std.proofs.lemmas.Result.{err_from_is_err_and}
 use Rattle.page_image.specs.Spelling.{key_of_row}

@@ -1,6 +1,6 @@
 use Rattle.std.proofs.Common.{◌≡◌, ◌-◌, None}
 use Rattle.std.specs.Option.{option_copied}
-use Rattle.tm_data.specs.Kept.{last_key}
+use Rattle.tm_lists.specs.Kept.{last_key}
 use Rattle.page_image.specs.Reading.{rows_at}
 use Rattle.wire_fields.proofs.Lists.{with_front}
 use Rattle.page_image.proofs.rows.read_rows.Given as goal
