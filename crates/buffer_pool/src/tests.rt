@@ -6,7 +6,7 @@ use crate::{Pool, PoolError};
 use page_redo::RedoError;
 use std::alloc::Global;
 use std::test::Fail;
-use tm_base::{Body, Image, ItemList, Page, Record, Stamp};
+use tm_base::{Body, Image, Page, Record, RowList, Stamp};
 
 fn blank(page: u32, stamp: u64) -> Image {
     Image {
@@ -65,7 +65,7 @@ fn made_a_leaf(alloc: Global, page: u32, prev: u64) -> Record
             table: 1,
             low: None,
             high: None,
-            rows: ItemList::new(alloc),
+            rows: RowList::new(alloc),
         },
     }
 }

@@ -1,11 +1,7 @@
 -- Keys in order, and the fences that say which keys a page may have.
 use Rattle.std.specs.Prelude.{ℕ, Bool, true, false, not, ◌&&◌, nat_eq, List, Option, Some, None}
-use Rattle.std.specs.Ordering.{nat_cmp, is_lt}
-use Rattle.std.specs.Cmp.Lexicographic.{slice_cmp, pointwise}
-
--- Keys are ordered byte by byte.
-abbrev pub key_less : List ℕ → List ℕ → Bool
-key_less a b = is_lt (slice_cmp nat_cmp a b)
+use Rattle.std.specs.Cmp.Lexicographic.{pointwise}
+pub use Rattle.tm_data.specs.Keys.{key_less}
 
 -- A key is not below the low fence; an open one is below all keys.
 abbrev pub is_from : Option (List ℕ) → List ℕ → Bool

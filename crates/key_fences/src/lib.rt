@@ -5,16 +5,10 @@
 
 ghost use Rattle.std.specs.Prelude.{◌≡◌, ◌≤◌, length, IfSome};
 ghost use Rattle.std.specs.Option.{option_copied};
-ghost use Rattle.key_fences.specs.Fences.{key_less, is_from, is_above, is_below, is_within, is_strictly_within, leave_room, same_fence};
+ghost use Rattle.key_fences.specs.Fences.{is_from, is_above, is_below, is_within, is_strictly_within, leave_room, same_fence};
 
 use tm_data::Key;
-
-/// Whether a key is below another one. Keys are ordered byte by byte.
-pub fn is_less(a: &[u8], b: &[u8]) -> bool
-    ensures { result ≡ key_less a.now b.now }
-{
-    a.cmp(b).is_lt()
-}
+pub use tm_data::is_less;
 
 /// The bytes of a fence, none for an open one.
 pub fn fence_bytes(fence: &Option<Key>) -> Option<&[u8]>

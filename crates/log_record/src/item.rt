@@ -8,14 +8,11 @@ ghost use Rattle.log_record.specs.Reading.{place_at, row_set_at, cut_at, format_
 
 use page_image::{kind_of, own_key, put_body, put_row, put_txn, read_body, read_row, read_txn};
 use std::alloc::{AllocError, Global};
-use tm_base::{Page, Record, Stamp};
+use tm_base::{MAX_IMAGE, Page, Record, Stamp};
 use wire_fields::{
     ReadError, offset, put_key, put_u8, put_u16, put_u32, put_u64, read_key, read_kind, read_u8,
     read_u16, read_u32, read_u64,
 };
-
-/// An image has at most 8,192 bytes.
-const MAX_IMAGE: usize = 8192;
 
 /// The page that a record changes, and the stamp that this had.
 #[derive(Clone, Copy)]
@@ -207,12 +204,9 @@ fn read_item(
 fn page_of(item: &Record) -> u32
     ensures { result ≡ page_of item.now }
 {
-    match item {
-        Record::RowSet { page, .. }
-        | Record::Cut { page, .. }
-        | Record::Format { page, .. }
-        | Record::NodeAdd { page, .. } => page.0,
-        Record::End { .. } | Record::Beat => 0,
+    match item.page() {
+        Some(page) => page.0,
+        None => 0,
     }
 }
 

@@ -1,5 +1,6 @@
 //! Bodies of images as bytes.
-ghost use Rattle.std.specs.Prelude.{◌≡◌, ◌≤◌, ◌++◌, length, OnOk, IfOk, Ok};
+ghost use Rattle.std.specs.Prelude.{◌≡◌, ◌≤◌, ◌++◌, true, length, OnOk, IfOk, Ok};
+ghost use Rattle.key_fences.specs.Fences.{is_above};
 ghost use Rattle.std.specs.Option.{option_copied};
 ghost use Rattle.wire_fields.specs.Reading.{Gives};
 ghost use Rattle.page_image.specs.Spelling.{child_bytes, children_bytes, head_bytes, body_bytes, kind_of, IsBody};
@@ -9,7 +10,7 @@ use crate::place::{own_key, read_placed};
 use crate::rows::{put_rows, read_rows};
 use key_fences::{fence_bytes, leave_room};
 use std::alloc::{AllocError, Global};
-use tm_base::{Body, Child, ItemList, Key, Page};
+use tm_base::{Body, Child, ChildList, Key, Page};
 use wire_fields::{
     ReadError, offset, put_fence, put_key, put_u8, put_u16, put_u32, read_fence, read_u8, read_u16,
     read_u32,
@@ -76,7 +77,7 @@ fn read_leaf(alloc: Global, total: usize, bytes: &[u8]) -> Result<(Body, &[u8]),
         table: head.table,
         low,
         high,
-        rows: ItemList::from_vec(rows),
+        rows,
     };
     Ok((body, rest))
 }
@@ -92,6 +93,7 @@ fn read_child<'a>(
 ) -> Result<(Child, &'a [u8], &'a [u8]), ReadError>
     ensures exact { Gives (λ x. (x.0, x.2.now)) result (child_at total (option_copied low.entry) (option_copied high.entry) (option_copied last.entry) bytes.now) }
     ensures key { IfOk result (λ x. x.1.now ≡ x.0.key) }
+    ensures above { IfOk result (λ x. is_above (option_copied last.entry) x.0.key ≡ true) }
 {
     let (place, rest) = read_placed(total, low, high, last, bytes)?;
     let (page, rest) = read_u32(total, 0, u32::MAX, rest)?;
@@ -103,6 +105,11 @@ fn read_child<'a>(
     Ok((child, place, rest))
 }
 
+/// An entry has at least 6 bytes: a key of one byte and a page.
+const MIN_CHILD: usize = 6;
+
+/// Reads so many entries, whose keys ascend strictly within the fences. Room is taken once, for the entries
+/// that are claimed or those that the bytes can have, whichever are fewer.
 fn read_children<'a>(
     alloc: Global,
     total: usize,
@@ -110,15 +117,20 @@ fn read_children<'a>(
     high: Option<&[u8]>,
     count: u16,
     bytes: &'a [u8],
-) -> Result<(Vec<Child>, &'a [u8]), ReadError>
-    ensures { Gives (λ x. (x.0.items, x.1.now)) result (children_at total (option_copied low.entry) (option_copied high.entry) None count bytes.now) }
+) -> Result<(ChildList, &'a [u8]), ReadError>
+    ensures { Gives (λ x. (x.0, x.1.now)) result (children_at total (option_copied low.entry) (option_copied high.entry) None count bytes.now) }
 {
-    let mut children = Vec::new(alloc);
+    let room = usize::from(count).min(bytes.len() / MIN_CHILD);
+    let Ok(mut children) = ChildList::with_capacity(alloc, room) else {
+        return Err(ReadError::NoMemory);
+    };
     let mut last: Option<&[u8]> = None;
     let mut rest = bytes;
     for _ in 0..count {
         let (child, key, behind) = read_child(alloc, total, low, high, last, rest)?;
-        children.push(child)?;
+        let Ok(()) = children.push(child) else {
+            return Err(ReadError::NoMemory);
+        };
         last = Some(key);
         rest = behind;
     }
@@ -141,7 +153,7 @@ fn read_inner(alloc: Global, total: usize, bytes: &[u8]) -> Result<(Body, &[u8])
         low,
         high,
         first: Page(first),
-        entries: ItemList::from_vec(children),
+        entries: children,
     };
     Ok((body, rest))
 }

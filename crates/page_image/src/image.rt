@@ -8,13 +8,10 @@ ghost use Rattle.page_image.specs.Reading.{image_at, image_of};
 
 use crate::body::{kind_of, put_body, read_body};
 use std::alloc::{AllocError, Global};
-use tm_base::{ByteList, Image, MAX_STAMP, Mem, Page, Stamp};
+use tm_base::{ByteList, Image, MAX_IMAGE, MAX_STAMP, Mem, Page, Stamp};
 use wire_fields::{
     ReadError, check_end, offset, put_u8, put_u32, put_u64, read_kind, read_u32, read_u64,
 };
-
-/// An image has at most 8,192 bytes.
-const MAX_IMAGE: usize = 8192;
 
 fn last_stamp(kind: u8) -> u64
     ensures { result ≡ last_stamp kind }

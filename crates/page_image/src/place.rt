@@ -1,5 +1,6 @@
 //! Where keys may stand, and transactions.
-ghost use Rattle.std.specs.Prelude.{◌≡◌};
+ghost use Rattle.std.specs.Prelude.{◌≡◌, true, IfOk};
+ghost use Rattle.key_fences.specs.Fences.{is_above};
 ghost use Rattle.std.specs.Option.{option_copied};
 ghost use Rattle.wire_fields.specs.Reading.{Gives};
 ghost use Rattle.page_image.specs.Spelling.{stands};
@@ -43,7 +44,8 @@ pub(crate) fn read_placed<'a>(
     last: Option<&[u8]>,
     bytes: &'a [u8],
 ) -> Result<(&'a [u8], &'a [u8]), ReadError>
-    ensures { Gives (λ x. (x.0.now, x.1.now)) result (placed_at total (option_copied low.entry) (option_copied high.entry) (option_copied last.entry) bytes.now) }
+    ensures exact { Gives (λ x. (x.0.now, x.1.now)) result (placed_at total (option_copied low.entry) (option_copied high.entry) (option_copied last.entry) bytes.now) }
+    ensures above { IfOk result (λ x. is_above (option_copied last.entry) x.0.now ≡ true) }
 {
     let (key, rest) = read_key(total, bytes)?;
     let stands = is_within(low, high, key) && is_above(last, key);

@@ -1,5 +1,6 @@
 //! Rows as bytes.
-ghost use Rattle.std.specs.Prelude.{◌≡◌, ◌≤◌, ◌++◌, length, IfOk, OnOk};
+ghost use Rattle.std.specs.Prelude.{◌≡◌, ◌≤◌, ◌++◌, true, length, IfOk, OnOk};
+ghost use Rattle.key_fences.specs.Fences.{is_above};
 ghost use Rattle.std.specs.Option.{option_copied, option_map};
 ghost use Rattle.wire_fields.specs.Reading.{Gives};
 ghost use Rattle.wire_fields.specs.Spelling.{value_bytes, before_bytes};
@@ -8,7 +9,7 @@ ghost use Rattle.page_image.specs.Reading.{row_after, row_at, rows_at, before_of
 
 use crate::place::{own_key, read_placed, read_txn};
 use std::alloc::{AllocError, Global};
-use tm_base::{Before, Row, Txn, Value};
+use tm_base::{Before, Row, RowList, Txn, Value};
 use wire_fields::{
     ReadError, put_before, put_key, put_u16, put_u32, put_value, read_before, read_value,
 };
@@ -73,6 +74,7 @@ fn read_row_in<'a>(
 ) -> Result<(Row, &'a [u8], &'a [u8]), ReadError>
     ensures exact { Gives (λ x. (x.0, x.2.now)) result (row_at total (option_copied low.entry) (option_copied high.entry) (option_copied last.entry) bytes.now) }
     ensures key { IfOk result (λ x. x.1.now ≡ x.0.key) }
+    ensures above { IfOk result (λ x. is_above (option_copied last.entry) x.0.key ≡ true) }
 {
     let (key, rest) = read_placed(total, low, high, last, bytes)?;
     let (row, rest) = read_row_after(alloc, total, key, rest)?;
@@ -87,7 +89,11 @@ pub fn read_row(alloc: Global, total: usize, bytes: &[u8]) -> Result<(Row, &[u8]
     Ok((row, rest))
 }
 
-/// Reads so many rows, whose keys ascend strictly within the fences.
+/// A row has at least 14 bytes: a key of one byte, a transaction, and no values.
+const MIN_ROW: usize = 14;
+
+/// Reads so many rows, whose keys ascend strictly within the fences. Room is taken once, for the rows that
+/// are claimed or those that the bytes can have, whichever are fewer.
 pub(crate) fn read_rows<'a>(
     alloc: Global,
     total: usize,
@@ -95,15 +101,20 @@ pub(crate) fn read_rows<'a>(
     high: Option<&[u8]>,
     count: u16,
     bytes: &'a [u8],
-) -> Result<(Vec<Row>, &'a [u8]), ReadError>
-    ensures { Gives (λ x. (x.0.items, x.1.now)) result (rows_at total (option_copied low.entry) (option_copied high.entry) None count bytes.now) }
+) -> Result<(RowList, &'a [u8]), ReadError>
+    ensures { Gives (λ x. (x.0, x.1.now)) result (rows_at total (option_copied low.entry) (option_copied high.entry) None count bytes.now) }
 {
-    let mut rows = Vec::new(alloc);
+    let room = usize::from(count).min(bytes.len() / MIN_ROW);
+    let Ok(mut rows) = RowList::with_capacity(alloc, room) else {
+        return Err(ReadError::NoMemory);
+    };
     let mut last: Option<&[u8]> = None;
     let mut rest = bytes;
     for _ in 0..count {
         let (row, key, behind) = read_row_in(alloc, total, low, high, last, rest)?;
-        rows.push(row)?;
+        let Ok(()) = rows.push(row) else {
+            return Err(ReadError::NoMemory);
+        };
         last = Some(key);
         rest = behind;
     }

@@ -10,6 +10,7 @@ use Rattle.tm_data.specs.declared.image.Body.TheVariants.{Blank, Leaf, Inner}
 use Rattle.tm_data.specs.declared.image.Image.{Image}
 use Rattle.tm_data.specs.declared.log.Record.{Record}
 use Rattle.tm_data.specs.declared.log.Record.TheVariants.{RowSet, Cut, Format, NodeAdd, End, Beat}
+pub use Rattle.tm_data.specs.Records.{page_of}
 use Rattle.tm_base.specs.Sizes.{size_with}
 use Rattle.key_fences.specs.Fences.{key_less, is_within, is_strictly_within}
 
@@ -103,15 +104,6 @@ abbrev pub redone_at : Image → Record → ℕ → Option Image
 redone_at image change stamp = stamped image stamp (redone image.body change)
 
 -- ---- what a record names
-
--- The page that it changes, if it changes one.
-abbrev pub page_of : Record → Option ℕ
-page_of (RowSet page prev table row) = Some page.0
-page_of (Cut page prev at) = Some page.0
-page_of (Format page prev body) = Some page.0
-page_of (NodeAdd page prev key child) = Some page.0
-page_of (End txn committed) = None
-page_of Beat = None
 
 -- The stamp of the version that it changes; 0 where it changes none.
 abbrev pub prev_of : Record → ℕ

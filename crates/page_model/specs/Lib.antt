@@ -6,3 +6,4 @@ pub mod Splits
 pub mod Sound
 pub mod Tiling
 pub mod Pool
+pub mod Placed

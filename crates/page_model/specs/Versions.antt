@@ -18,9 +18,9 @@ use Rattle.tm_data.specs.declared.log.Record.{Record}
 use Rattle.tm_data.specs.declared.vector.VectorEntry.{VectorEntry}
 use Rattle.tm_data.specs.Vectors.{stamp_of}
 use Rattle.page_model.specs.Effects.{initial, redone_at, prev_of}
+pub use Rattle.tm_data.specs.Records.{changed_page}
 use Rattle.page_model.specs.contracts.link.Link as link
 pub use Rattle.page_model.specs.declared.link.Link.{Link}
-pub use Rattle.page_model.specs.Splits.{changed_page as page_changed}
 
 -- ---- the versions of a page
 
@@ -110,7 +110,7 @@ taken_beside pages page new (Some old) = taken_again pages (same_link old new)
 
 -- The links of all pages with one more of the page that its record changes; none where it differs from one held.
 abbrev pub taken : Held → Link → Option Held
-taken pages new = taken_beside pages (page_changed new.change) new (held (links_of pages (page_changed new.change)) new.stamp.0)
+taken pages new = taken_beside pages (changed_page new.change) new (held (links_of pages (changed_page new.change)) new.stamp.0)
 
 -- A writer's record of this stamp.
 abbrev pub link_of : ℕ → ℕ → Record → Link

@@ -3,7 +3,7 @@ ghost use Rattle.std.specs.Prelude.{◌≡◌};
 ghost use Rattle.page_model.specs.Effects.{initial, initial_body};
 
 use std::alloc::Global;
-use tm_base::{Body, Image, ItemList, Page, Stamp};
+use tm_base::{Body, Image, Page, RowList, Stamp};
 
 /// Pages 1 to this one are the roots of the tables of these numbers.
 const LAST_ROOT: u32 = 1024;
@@ -30,6 +30,6 @@ fn initial_body(alloc: Global, page: u32) -> Body
         table: page as u16,
         low: None,
         high: None,
-        rows: ItemList::new(alloc),
+        rows: RowList::new(alloc),
     }
 }

@@ -6,7 +6,7 @@ use super::*;
 use std::alloc::Global;
 use std::test::Fail;
 use tm_base::{
-    Before, Body, Image, ItemList, Key, Page, Record, Row, Stamp, Txn, Value, Writer, size,
+    Before, Body, ChildList, Image, Key, Page, Record, Row, Stamp, Txn, Value, Writer, size,
 };
 
 /// A record of a page, with keys of one byte.
@@ -49,7 +49,7 @@ fn inner(alloc: Global) -> Body {
         low: None,
         high: None,
         first: Page(1025),
-        entries: ItemList::new(alloc),
+        entries: ChildList::new(alloc),
     }
 }
 

@@ -1,6 +1,5 @@
 //! The pages of one store.
 ghost use Rattle.std.specs.Prelude.{◌≡◌, ◌≤◌};
-ghost use Rattle.page_model.specs.Effects.{page_of};
 ghost use Rattle.store_model.specs.PageState.{is_of};
 ghost use Rattle.store_model.specs.PageStep.{is_kept};
 
@@ -29,23 +28,9 @@ impl Share {
         requires { 1 ≤ self.stores }
         ensures { result ≡ is_kept self.number self.stores stamp.0 change.now }
     {
-        let Some(page) = page_of(change) else {
+        let Some(page) = change.page() else {
             return false;
         };
-        self.has(page) && prev_of(change).0 < stamp.0
-    }
-}
-
-/// The number of the page that a record changes, if it changes one.
-fn page_of(change: &Record) -> Option<u32>
-    ensures { result ≡ page_of change.now }
-{
-    match change {
-        Record::RowSet { page, .. } => Some(page.0),
-        Record::Cut { page, .. } => Some(page.0),
-        Record::Format { page, .. } => Some(page.0),
-        Record::NodeAdd { page, .. } => Some(page.0),
-        Record::End { .. } => None,
-        Record::Beat => None,
+        self.has(page.0) && prev_of(change).0 < stamp.0
     }
 }

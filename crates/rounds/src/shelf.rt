@@ -5,11 +5,10 @@ ghost use Rattle.page_model.specs.Effects.{page_of, redone_at};
 ghost use Rattle.rounds.specs.Shelves.{on_shelf, HasKey, LeafHas, HasRowOf, Redoes};
 
 use crate::failure::Failure;
-use key_fences::is_less;
 use page_redo::{apply, initial};
 use row_tree::{Pages, Path, Plan, PlanError, find, plan_put};
 use std::alloc::Global;
-use tm_base::{Body, Image, Key, Page, Record, Row, Stamp};
+use tm_base::{Body, Image, Key, KeyPlace, Page, Record, RowList, Stamp};
 
 /// The table, whose root is the page of its number.
 const TABLE: u16 = 1;
@@ -41,20 +40,6 @@ impl Pages for Shelf {
             return None;
         };
         self.others.get(at as usize)
-    }
-}
-
-// The page that a record changes, if it changes one.
-fn page_of(change: &Record) -> Option<Page>
-    ensures { IfSome result (λ page. page_of change.now ≡ Some page.0) }
-{
-    match change {
-        Record::RowSet { page, .. } => Some(*page),
-        Record::Cut { page, .. } => Some(*page),
-        Record::Format { page, .. } => Some(*page),
-        Record::NodeAdd { page, .. } => Some(*page),
-        Record::End { .. } => None,
-        Record::Beat => None,
     }
 }
 
@@ -113,7 +98,7 @@ impl Shelf {
     fn redo(&mut self, change: &Record, stamp: Stamp) -> Result<(), Failure>
         ensures { OnOk result (Redoes (on_shelf self.old) (on_shelf self.new) change.now stamp.0) }
     {
-        let Some(page) = page_of(change) else {
+        let Some(page) = change.page() else {
             return Err(Failure::Refused);
         };
         if page.0 == ROOT {
@@ -162,18 +147,20 @@ fn has_key(body: &Body, key: &Key) -> bool
     ensures { OnTrue result (LeafHas 1 body.now key.now) }
 {
     match body {
-        Body::Leaf { table, rows, .. } => *table == TABLE && has_row(rows.as_slice(), key),
+        Body::Leaf { table, rows, .. } => *table == TABLE && has_row(rows, key),
         _ => false,
     }
 }
 
-// Whether a row of that key is among rows in order. It looks at a few by halving.
-fn has_row(rows: &[Row], key: &Key) -> bool
+// Whether a row of that key is there. It looks at a few by halving.
+fn has_row(rows: &RowList, key: &Key) -> bool
     ensures { OnTrue result (HasRowOf rows.now key.now) }
 {
-    let at = rows.partition_point(|row: &Row| is_less(row.key.as_slice(), key.as_slice()));
-    if at == rows.len() {
+    let KeyPlace::At(at) = rows.place(key.as_slice()) else {
         return false;
-    }
-    rows[at].key.as_slice() == key.as_slice()
+    };
+    let Some(row) = rows.get(at) else {
+        return false;
+    };
+    row.key.as_slice() == key.as_slice()
 }

@@ -1,6 +1,5 @@
 pub mod PlaceLemmas
 pub mod PathLemmas
-pub mod RowLemmas
 pub mod FullLemmas
 pub mod PlanLemmas
 pub mod FittingLemmas

@@ -7,7 +7,6 @@ use Rattle.tm_data.specs.declared.image.Image.{Image}
 use Rattle.tm_data.specs.declared.image.Body.{Body}
 use Rattle.tm_data.specs.declared.image.Body.TheVariants.{Inner}
 use Rattle.page_model.specs.Tree.{Images, Place, level_of, is_at, body_at, there, one_below, child_for, with_page, going_on, path_below}
-use Rattle.page_model.specs.Sound.{Ascend, child_key, AreSound, IsSound}
 use Rattle.row_tree.specs.declared.path.FindError.{FindError}
 use Rattle.row_tree.specs.declared.path.FindError.TheVariants.{Need, NoMemory}
 use Rattle.row_tree.specs.Inside.{GoesOn}
@@ -22,28 +21,16 @@ one_below-is level (Some body) child h =
     let e = chosen (nat_eq (level_of body + 1) level) body child h in
     (ap Some e.1, let q = e.0 in let t : level_of body + 1 ≡ level = grind (arith, nat_tests) in sym t ∙ ap (λ (b : Body). level_of b + 1) e.1)
 
-body_at-is : (table : ℕ) (place : Place) (o : Option Image) (body : Body) → body_at table place o ≡ Some body → (i : Image) × (o ≡ Some i) × (i.body ≡ body)
-body_at-is table place None body h = cc
-body_at-is table place (Some i) body h = (i, refl, (chosen (is_at table place i.body) i.body body h).1)
-
-pub there-sound : (images : Images) (table : ℕ) (place : Place) (body : Body) → AreSound images → there images table place ≡ Some body → IsSound body
-there-sound images table place body sound h =
-    let e = body_at-is table place (images place.page.0) body h in
-    subst IsSound e.2 (sound place.page.0 e.0 e.1)
-
-pub entries_ascend : (body : Body) (of level : ℕ) (low high : Option (List ℕ)) (first : Page) (entries : List Child) → body ≡ Inner of level low high first entries → IsSound body → Ascend child_key entries
-entries_ascend body of level low high first entries e ok = (subst IsSound e ok).parts.1.ascend
-
 missing_at : (images : Images) (table : ℕ) (key : List ℕ) (of level : ℕ) (low high : Option (List ℕ)) (first : Page) (entries : List Child) → one_below level (there images table (child_for key low high first entries)) ≡ None
     → path_below images table key level (Inner of level low high first entries) ≡ Err (child_for key low high first entries).page
 missing_at images table key of zero low high first entries h = refl
 missing_at images table key of (suc n) low high first entries h =
     ap (λ o. going_on (child_for key low high first entries).page o (path_below images table key n)) h
 
-pub missing : (images : Images) (table : ℕ) (key : List ℕ) (body : Body) (of level : ℕ) (low high : Option (List ℕ)) (first : Page) (entries es : List Child) (place : Place) → body ≡ Inner of level low high first entries → es ≡ entries → place ≡ child_for key low high first es
+pub missing : (images : Images) (table : ℕ) (key : List ℕ) (body : Body) (of level : ℕ) (low high : Option (List ℕ)) (first : Page) (entries : List Child) (place : Place) → body ≡ Inner of level low high first entries → place ≡ child_for key low high first entries
     → None ≡ one_below level (there images table place) → path_below images table key (level_of body) body ≡ Err place.page
-missing images table key body of level low high first entries es place is same leads h =
-    let p : place ≡ child_for key low high first entries = leads ∙ ap (child_for key low high first) same in
+missing images table key body of level low high first entries place is leads h =
+    let p : place ≡ child_for key low high first entries = leads in
     ap (λ (b : Body). path_below images table key (level_of b) b) is ∙ missing_at images table key of level low high first entries (ap (λ (q : Place). one_below level (there images table q)) (sym p) ∙ sym h) ∙ ap (λ (q : Place). Err q.page) (sym p)
 
 found_at : (images : Images) (table : ℕ) (key : List ℕ) (of level : ℕ) (low high : Option (List ℕ)) (first : Page) (entries : List Child) (child : Body) → level ≡ level_of child + 1 → one_below level (there images table (child_for key low high first entries)) ≡ Some child
@@ -53,10 +40,10 @@ found_at images table key of (suc n) low high first entries child le h =
     let e : n ≡ level_of child = omega arith in
     ap (λ o. going_on (child_for key low high first entries).page o (path_below images table key n)) h ∙ ap (λ m. with_page (child_for key low high first entries).page (path_below images table key m child)) e
 
-pub found : (images : Images) (table : ℕ) (key : List ℕ) (body : Body) (of level : ℕ) (low high : Option (List ℕ)) (first : Page) (entries es : List Child) (place : Place) (child : Body) → body ≡ Inner of level low high first entries → es ≡ entries → place ≡ child_for key low high first es
+pub found : (images : Images) (table : ℕ) (key : List ℕ) (body : Body) (of level : ℕ) (low high : Option (List ℕ)) (first : Page) (entries : List Child) (place : Place) (child : Body) → body ≡ Inner of level low high first entries → place ≡ child_for key low high first entries
     → Some child ≡ one_below level (there images table place) → path_below images table key (level_of body) body ≡ with_page place.page (path_below images table key (level_of child) child)
-found images table key body of level low high first entries es place child is same leads h =
-    let p : place ≡ child_for key low high first entries = leads ∙ ap (child_for key low high first) same in
+found images table key body of level low high first entries place child is leads h =
+    let p : place ≡ child_for key low high first entries = leads in
     let b : one_below level (there images table (child_for key low high first entries)) ≡ Some child = ap (λ (q : Place). one_below level (there images table q)) (sym p) ∙ sym h in
     ap (λ (b : Body). path_below images table key (level_of b) b) is ∙ found_at images table key of level low high first entries child (one_below-is level (there images table (child_for key low high first entries)) child b).1 b
     ∙ ap (λ (q : Place). with_page q.page (path_below images table key (level_of child) child)) (sym p)

@@ -6,10 +6,11 @@ use Rattle.std.specs.List.Sorted.{IsPartitionedBy}
 use Rattle.tm_data.specs.declared.image.Child.{Child}
 use Rattle.tm_data.specs.declared.transaction.Page.{Page}
 use Rattle.key_fences.specs.Fences.{key_less}
-use Rattle.page_model.specs.Sound.{Ascend, child_key}
+use Rattle.tm_data.specs.Kept.{Ascend}
+use Rattle.tm_data.proofs.KeptLemmas.{ascend_at}
 use Rattle.page_model.specs.Tree.{Place, next_fence, entry_places, last_from, child_for}
 use Rattle.row_tree.specs.Inside.{ArePartedAt}
-use Rattle.page_model.proofs.KeyLemmas.{ascend_at, not_both, up_to_trans}
+use Rattle.page_model.proofs.KeyLemmas.{not_both, up_to_trans}
 
 abbrev up_to : List ℕ → Child → Bool
 up_to key c = not (key_less key c.key)
@@ -19,9 +20,9 @@ from_not true h = cc
 from_not false h = refl
 
 -- entries whose keys ascend are parted by every key
-pub are_parted : (key : List ℕ) (entries : List Child) → Ascend child_key entries → IsPartitionedBy (up_to key) entries
+pub are_parted : (key : List ℕ) (entries : List Child) → Ascend (λ (c : Child). c.key) entries → IsPartitionedBy (up_to key) entries
 are_parted key entries up i j d le lt h =
-    elim (cases_lt i j) [ inl l ↦ (let k = not_both (get_or entries i d).key (get_or entries j d).key (ascend_at child_key entries i j d up l lt) in let e = up_to_trans (get_or entries i d).key (get_or entries j d).key key k (from_not _ h) in ap not e) | inr g ↦ (let e : i ≡ j = omega arith in rw e h) ]
+    elim (cases_lt i j) [ inl l ↦ (let k = not_both (get_or entries i d).key (get_or entries j d).key (ascend_at (λ (c : Child). c.key) entries i j d up l lt) in let e = up_to_trans (get_or entries i d).key (get_or entries j d).key key k (from_not _ h) in ap not e) | inr g ↦ (let e : i ≡ j = omega arith in rw e h) ]
 
 led_none : (key : List ℕ) (high : Option (List ℕ)) (place : Place) (entries : List Child) → AllWithin (λ c. up_to key c ≡ false) entries 0 (length entries) → last_from key place (entry_places high entries) ≡ place
 led_none key high place [] all = refl

@@ -2,7 +2,6 @@
 use Rattle.std.proofs.Common.{◌≡◌, ℕ, ◌+◌, ◌-◌, ◌<◌, ◌≤◌, Bool, true, false, cond, List, [], ◌∷◌, ◌++◌, length, reverse, Option, Some, None, Result, Ok, Err, refl, sym, ap, ◌∙◌, append_assoc, arith, Bor, subst, nat_le, nat_lt}
 use Rattle.std.specs.Prelude.{OnOk}
 use Rattle.std.specs.Option.{option_map}
-use Rattle.std.specs.List.{AllByRecursion}
 use Rattle.std.proofs.lemmas.List.{map-append, reverse-append, append-nil, length-reverse, length-map}
 use Rattle.std.proofs.lemmas.Bool.Decides.{nat_tests}
 use Rattle.tm_data.specs.declared.transaction.Page.{Page}
@@ -12,9 +11,8 @@ use Rattle.tm_data.specs.declared.image.Body.{Body}
 use Rattle.tm_data.specs.declared.log.Record.{Record}
 use Rattle.row_tree.specs.declared.halves.RightHalf.{RightHalf}
 use Rattle.page_model.specs.Tree.{Images, table_of, level_of}
-use Rattle.page_model.specs.Sound.{IsSound, AreSound}
 use Rattle.page_model.specs.Splits.{Halves, Spot, spot_of, halves, half_for, with_image, images_on, is_full, full_pages, page_above, split_group, root_group, splitting, splitting_root, groups_below, groups_of_root, TooHigh, Wanting, if_enough, plan_with, plan_of}
-use Rattle.row_tree.specs.Inside.{images_at, upward, AreSoundAt, right_of, right_in, halves_of}
+use Rattle.row_tree.specs.Inside.{images_at, upward, right_of, right_in, halves_of}
 
 pub on_ok : {A E : Type 0} (r : Result A E) {P Q : Type 0} → (P → Q) → OnOk r P → OnOk r Q
 on_ok (Ok x) f h = f h
@@ -25,13 +23,6 @@ on_ok (Err e) f h = tt
 pub rev_last : (full below : List (Bor Image)) (r : Bor Image) → full ≡ below ++ r ∷ [] → reverse (images_at full) ≡ r.now ∷ reverse (images_at below)
 rev_last full below r e =
     ap (λ (refs : List (Bor Image)). reverse (images_at refs)) e ∙ ap reverse (map-append (λ (b : Bor Image). b.now) below (r ∷ [])) ∙ reverse-append (images_at below) (r.now ∷ [])
-
-sound_parts : (below : List (Bor Image)) (r : Bor Image) → AreSoundAt (below ++ r ∷ []) → IsSound r.now.body × AreSoundAt below
-sound_parts [] r h = (h.0, tt)
-sound_parts (b ∷ bs) r h = let rest = sound_parts bs r h.1 in (rest.0, (h.0, rest.1))
-
-pub sound_last : (full below : List (Bor Image)) (r : Bor Image) → full ≡ below ++ r ∷ [] → AreSoundAt full → IsSound r.now.body × AreSoundAt below
-sound_last full below r e h = sound_parts below r (let P : List (Bor Image) → Type 0 = AreSoundAt in subst P e h)
 
 -- ---- what the right half says of the halves
 
@@ -150,38 +141,6 @@ length_up images row path full e =
     let b : length (images_at full) ≡ length (full_pages row (upward images path)) = ap length e in
     let c : length (upward images path) ≡ length (images_on images path) = length-reverse (images_on images path) in
     omega (arith, a, b, c, length_full row (upward images path), length_on images path)
-
-abbrev SoundAll : List Image → Type 0
-SoundAll is = AllByRecursion (λ (i : Image). IsSound i.body) is
-
-sound_with : (images : Images) (p : ℕ) (o : Option Image) (is : List Image) → AreSound images → images p ≡ o → SoundAll is → SoundAll (with_image o is)
-sound_with images p None is sound e h = h
-sound_with images p (Some i) is sound e h = (sound p i e, h)
-
-sound_on : (images : Images) (path : List Page) → AreSound images → SoundAll (images_on images path)
-sound_on images [] sound = tt
-sound_on images (p ∷ ps) sound = sound_with images p.0 (images p.0) (images_on images ps) sound refl (sound_on images ps sound)
-
-sound_append : (is js : List Image) → SoundAll is → SoundAll js → SoundAll (is ++ js)
-sound_append [] js h k = k
-sound_append (i ∷ is) js h k = (h.0, sound_append is js h.1 k)
-
-sound_reverse : (is : List Image) → SoundAll is → SoundAll (reverse is)
-sound_reverse [] h = tt
-sound_reverse (i ∷ is) h = let P : List Image → Type 0 = SoundAll in subst P (sym (reverse-append (i ∷ []) is)) (sound_append (reverse is) (i ∷ []) (sound_reverse is h.1) (h.0, tt))
-
-sound_chosen : (b : Bool) (i : Image) (is : List Image) → IsSound i.body → SoundAll is → SoundAll (cond b (i ∷ is) [])
-sound_chosen true i is h k = (h, k)
-sound_chosen false i is h k = tt
-
-sound_full : (row : Row) (is : List Image) → SoundAll is → SoundAll (full_pages row is)
-sound_full row [] h = tt
-sound_full row (i ∷ is) h = sound_chosen (is_full row i.body) i (full_pages row is) h.0 (sound_full row is h.1)
-
-pub sound_up : (images : Images) (row : Row) (path : List Page) (full : List (Bor Image)) → AreSound images → images_at full ≡ full_pages row (upward images path) → AreSoundAt full
-sound_up images row path full sound e =
-    let P : List Image → Type 0 = SoundAll in
-    subst P (sym e) (sound_full row (upward images path) (sound_reverse (images_on images path) (sound_on images path sound)))
 
 pub plan_is : (images : Images) (row : Row) (path : List Page) (fresh : List Page) (first : ℕ) (full : List (Bor Image)) (above : Option Image) → images_at full ≡ full_pages row (upward images path) → above ≡ page_above row (upward images path)
     → plan_with row fresh first above (reverse (images_at full)) ≡ plan_of images path row fresh first

@@ -1,7 +1,6 @@
 -- Words of the crate's own functions.
 use Rattle.std.specs.Prelude.{◌≡◌, ◌≤◌, ◌<◌, ◌-◌, ℕ, not, true, false, List, ◌++◌, length, map, reverse, Some, Result, Ok, Err}
 use Rattle.std.specs.Option.{option_copied}
-use Rattle.std.specs.List.{AllByRecursion}
 use Rattle.std.specs.List.Sorted.{IsPartitionPoint}
 use Rattle.std.specs.Borrow.{Bor}
 use Rattle.tm_data.specs.declared.transaction.Page.{Page}
@@ -18,7 +17,6 @@ use Rattle.row_tree.specs.declared.place.Place as code
 use Rattle.row_tree.specs.declared.groups.Spot as groups
 use Rattle.row_tree.specs.declared.halves.RightHalf.{RightHalf}
 use Rattle.key_fences.specs.Fences.{key_less}
-use Rattle.page_model.specs.Sound.{IsSound}
 use Rattle.page_model.specs.Splits.{Halves, Spot, Refusal, TooHigh, Wanting, images_on, halves}
 use Rattle.page_model.specs.Tree as model
 use Rattle.page_model.specs.Tree.{Images}
@@ -33,10 +31,6 @@ spot_in s = record { page = s.page; stamp = s.stamp.0; table = s.table }
 abbrev pub ArePartedAt : List ℕ → List Child → ℕ → Type 0
 ArePartedAt key entries n =
     IsPartitionPoint (λ c. not (key_less key c.key) ≡ true) (λ c. not (key_less key c.key) ≡ false) entries n
-
--- The first so many rows have keys below this one, and the others haven't.
-abbrev pub AreParted : List ℕ → List Row → ℕ → Type 0
-AreParted key rows n = IsPartitionPoint (λ r. key_less r.key key ≡ true) (λ r. key_less r.key key ≡ false) rows n
 
 -- What was found is the path, or the first page that isn't there; want of memory says nothing.
 abbrev pub Refuses : FindError → Result (List Page) Page → Type 0
@@ -58,9 +52,6 @@ upward images path = reverse (images_on images path)
 
 abbrev pub images_at : List (Bor Image) → List Image
 images_at refs = map (λ (r : Bor Image). r.now) refs
-
-abbrev pub AreSoundAt : List (Bor Image) → Type 0
-AreSoundAt refs = AllByRecursion (λ (i : Image). IsSound i.body) (images_at refs)
 
 abbrev pub right_of : Halves → List ℕ × Body
 right_of h = (h.separator, h.right)

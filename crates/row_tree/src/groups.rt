@@ -33,16 +33,13 @@ pub(crate) fn spot_of(image: &Image) -> Spot
     }
 }
 
+/// The page that a record changes, 0 where it changes none.
 fn changed_page(change: &Record) -> u32
     ensures { result ≡ changed_page change.now }
 {
-    match change {
-        Record::RowSet { page, .. } => page.0,
-        Record::Cut { page, .. } => page.0,
-        Record::Format { page, .. } => page.0,
-        Record::NodeAdd { page, .. } => page.0,
-        Record::End { .. } => 0,
-        Record::Beat => 0,
+    match change.page() {
+        Some(page) => page.0,
+        None => 0,
     }
 }
 

@@ -1,7 +1,6 @@
 //! The path of a key.
 ghost use Rattle.std.specs.Prelude.{◌≡◌};
 ghost use Rattle.std.specs.Option.{option_copied};
-ghost use Rattle.page_model.specs.Sound.{AreSound, IsSound};
 ghost use Rattle.page_model.specs.Tree.{there, one_below, level_of, path_below, path_of};
 ghost use Rattle.row_tree.specs.Inside.{place_of, GivesPath, GoesOn};
 
@@ -75,7 +74,7 @@ fn add_below<P: Pages>(
     body: &Body,
     path: &mut Path,
 ) -> Result<(), FindError>
-    ensures { AreSound (P.images pages.now) → IsSound body.now → GoesOn path.old path.new result
+    ensures { GoesOn path.old path.new result
         (path_below (P.images pages.now) table key.now (level_of body.now) body.now) }
 {
     let Body::Inner {
@@ -89,7 +88,7 @@ fn add_below<P: Pages>(
     else {
         return Ok(());
     };
-    let place = child_for(key, low, high, *first, entries.as_slice());
+    let place = child_for(key, low, high, *first, entries);
     let Some(child) = one_below(pages, table, *level, &place) else {
         return Err(FindError::Need { page: place.page });
     };
@@ -100,11 +99,9 @@ fn add_below<P: Pages>(
 /// The path of a key in a table: the pages from the table's root down to the leaf to which the key
 /// leads, at most six. Refuses `Need` exactly with the first of these pages that isn't there.
 ///
-/// Each page of the path is looked at once. The images are those of a store of pages: each has its keys
-/// in ascending order, as all that have a spelling.
+/// Each page of the path is looked at once, and searched by halving.
 pub fn find<P: Pages>(alloc: Global, pages: &P, table: u16, key: &Key) -> Result<Path, FindError>
-    ensures { AreSound (P.images pages.now) →
-        GivesPath result (path_of (P.images pages.now) table key.now) }
+    ensures { GivesPath result (path_of (P.images pages.now) table key.now) }
 {
     let root = Place {
         page: Page(u32::from(table)),

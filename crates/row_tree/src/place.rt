@@ -1,13 +1,12 @@
 //! Where a key leads from an inner page.
 ghost use Rattle.std.specs.Prelude.{◌≡◌, ◌≤◌, length, drop};
 ghost use Rattle.std.specs.Option.{option_copied};
-ghost use Rattle.page_model.specs.Sound.{Ascend, child_key};
 ghost use Rattle.page_model.specs.Tree.{child_for, is_at, is_of, next_fence};
 ghost use Rattle.row_tree.specs.Inside.{place_of, ArePartedAt};
 
 use crate::fence::{high_of, low_of};
 use key_fences::{fence_bytes, is_less, same_fence};
-use tm_base::{Body, Child, Key, Page};
+use tm_base::{Body, Child, ChildList, Key, Page};
 
 /// A page as its parent gives it: for the keys from the low fence on and below the high one.
 #[derive(Clone, Copy)]
@@ -18,11 +17,13 @@ pub(crate) struct Place<'a> {
 }
 
 /// How many entries from the first on have keys that are at most this one. It looks at a few by halving.
-fn entries_up_to(entries: &[Child], key: &[u8]) -> usize
+fn entries_up_to(entries: &ChildList, key: &[u8]) -> usize
     ensures bound { result ≤ length entries.now }
-    ensures parted { Ascend child_key entries.now → ArePartedAt key.now entries.now result }
+    ensures parted { ArePartedAt key.now entries.now result }
 {
-    entries.partition_point(|entry: &Child| !is_less(key, entry.key.as_slice()))
+    entries
+        .as_slice()
+        .partition_point(|entry: &Child| !is_less(key, entry.key.as_slice()))
 }
 
 /// Up to where the keys of the page before the entry number `at` go.
@@ -42,12 +43,12 @@ pub(crate) fn child_for<'a>(
     low: &'a Option<Key>,
     high: &'a Option<Key>,
     first: Page,
-    entries: &'a [Child],
+    entries: &'a ChildList,
 ) -> Place<'a>
-    ensures { Ascend child_key entries.now →
-        place_of result ≡ child_for key.now low.now high.now first entries.now }
+    ensures { place_of result ≡ child_for key.now low.now high.now first entries.now }
 {
     let count = entries_up_to(entries, key);
+    let entries = entries.as_slice();
     let high = next_fence(entries, count, high);
     if count == 0 {
         return Place {

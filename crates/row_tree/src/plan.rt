@@ -2,10 +2,9 @@
 ghost use Rattle.std.specs.Prelude.{◌≡◌, ◌<◌, ◌≤◌, ◌+◌, ◌-◌, ◌^◌, ◌++◌, length, reverse, IfOk, OnOk, Some, None, if◌then◌else◌};
 ghost use Rattle.key_fences.specs.Fences.{key_less};
 ghost use Rattle.page_model.specs.Tree.{level_of};
-ghost use Rattle.page_model.specs.Sound.{AreSound, IsSound};
 ghost use Rattle.page_model.specs.Splits.{groups_below, groups_of_root, plan_of, plan_with};
 ghost use Rattle.row_tree.specs.Plans.{Fitting};
-ghost use Rattle.row_tree.specs.Inside.{spot_in, images_at, GivesPlan, IsEnough, AreSoundAt};
+ghost use Rattle.row_tree.specs.Inside.{spot_in, images_at, GivesPlan, IsEnough};
 
 use crate::fence::{level_of, table_of};
 use crate::full::{FullPages, full_pages};
@@ -81,7 +80,7 @@ fn add_groups(
     fresh: &[Page],
     stamp: Stamp,
 ) -> Mem<()>
-    ensures { AreSoundAt full.now → stamp.0 + length full.now < 2 ^ 64 → OnOk result (plan.new ≡
+    ensures { stamp.0 + length full.now < 2 ^ 64 → OnOk result (plan.new ≡
         plan.old ++ groups_below row.entry.now (spot_in spot) (reverse (images_at full.now)) fresh.now stamp.0) }
 {
     let Some((image, below)) = full.split_last() else {
@@ -91,7 +90,7 @@ fn add_groups(
     let Some((page, fresh)) = fresh.split_first() else {
         return Ok(());
     };
-    let Some(half) = right_half(alloc, &image.body)? else {
+    let Some(half) = right_half(&image.body)? else {
         return Ok(());
     };
     let next = Spot {
@@ -115,7 +114,7 @@ fn add_root_groups(
     stamp: Stamp,
 ) -> Mem<()>
     requires { level_of image.now.body < 5 }
-    ensures { IsSound image.now.body → AreSoundAt below.now → stamp.0 + 1 + length below.now < 2 ^ 64 →
+    ensures { stamp.0 + 1 + length below.now < 2 ^ 64 →
         OnOk result (plan.new ≡ plan.old
         ++ groups_of_root row.entry.now image.now (reverse (images_at below.now)) fresh.now stamp.0) }
 {
@@ -125,10 +124,10 @@ fn add_root_groups(
     let Some((right, fresh)) = fresh.split_first() else {
         return Ok(());
     };
-    let Some(half) = right_half(alloc, &image.body)? else {
+    let Some(half) = right_half(&image.body)? else {
         return Ok(());
     };
-    let left_body = left_half(alloc, &image.body, &half.separator)?;
+    let left_body = left_half(&image.body, &half.separator)?;
     let next = Spot {
         page: half_for(row, &half.separator, *left, *right),
         stamp,
@@ -148,7 +147,7 @@ fn plan_below(
     fresh: &[Page],
     first: Stamp,
 ) -> Result<Plan, PlanError>
-    ensures { AreSoundAt full.now → first.0 + length full.now < 2 ^ 64 → length full.now < 2 ^ 32 →
+    ensures { first.0 + length full.now < 2 ^ 64 → length full.now < 2 ^ 32 →
         GivesPlan result
         (plan_with row.entry.now fresh.now first.0 (Some above.now) (reverse (images_at full.now))) }
 {
@@ -166,7 +165,7 @@ fn plan_root(
     fresh: &[Page],
     first: Stamp,
 ) -> Result<Plan, PlanError>
-    ensures { AreSoundAt full.now → first.0 + length full.now < 2 ^ 64 → length full.now + 1 < 2 ^ 32 →
+    ensures { first.0 + length full.now < 2 ^ 64 → length full.now + 1 < 2 ^ 32 →
         GivesPlan result
         (plan_with row.entry.now fresh.now first.0 None (reverse (images_at full.now))) }
 {
@@ -191,7 +190,7 @@ fn planned<P: Pages>(
     fresh: &[Page],
     first: Stamp,
 ) -> Result<Plan, PlanError>
-    ensures { AreSound (P.images pages.now) → length path.now ≤ 6 → first.0 ≤ 2 ^ 63 → GivesPlan result
+    ensures { length path.now ≤ 6 → first.0 ≤ 2 ^ 63 → GivesPlan result
         (plan_of (P.images pages.now) path.now row.entry.now fresh.now first.0) }
 {
     let FullPages { full, above } = full_pages(alloc, pages, path, row)?;
@@ -222,9 +221,9 @@ pub fn plan_put<P: Pages>(
     fresh: &[Page],
     first: Stamp,
 ) -> Result<Plan, PlanError>
-    ensures exact { AreSound (P.images pages.now) → length path.now ≤ 6 → first.0 ≤ 2 ^ 63 → GivesPlan result
+    ensures exact { length path.now ≤ 6 → first.0 ≤ 2 ^ 63 → GivesPlan result
         (plan_of (P.images pages.now) path.now row.entry.now fresh.now first.0) }
-    ensures fits { AreSound (P.images pages.now) → first.0 ≤ 2 ^ 63
+    ensures fits { first.0 ≤ 2 ^ 63
         → Fitting result (P.images pages.now) path.now row.entry.now fresh.now first.0 }
 {
     planned(alloc, pages, path, row, fresh, first)

@@ -7,8 +7,8 @@ use crate::{FindError, Pages, Plan, PlanError, find, plan_put};
 use std::alloc::Global;
 use std::test::Fail;
 use tm_base::{
-    Before, Body, Child, ChildList, Image, ItemList, Key, Page, Record, Row, RowList, Stamp, Txn,
-    Value, Writer,
+    Before, Body, Child, ChildList, Image, ItemList, Key, Keyed, KeyedList, Mem, Page, Record, Row,
+    RowList, Stamp, Txn, Value, Writer,
 };
 
 /// A few pages.
@@ -38,13 +38,19 @@ fn row(alloc: Global, key: u8, size: usize) -> Result<Row, Fail> {
     })
 }
 
+/// Puts an item into its place.
+fn put_in<T: Keyed + Drop>(items: &mut KeyedList<T>, item: T) -> Mem<()> {
+    let place = items.place(item.key());
+    items.set(item, place)
+}
+
 /// A leaf of 8,192 bytes: fifteen rows of 527 bytes and one of 267.
 fn full_leaf(alloc: Global) -> Result<Body, Fail> {
     let mut rows = RowList::new(alloc);
     for key in 1..16 {
-        rows.push(row(alloc, key, 512)?)?;
+        put_in(&mut rows, row(alloc, key, 512)?)?;
     }
-    rows.push(row(alloc, 16, 252)?)?;
+    put_in(&mut rows, row(alloc, 16, 252)?)?;
     Ok(Body::Leaf {
         table: 1,
         low: None,
@@ -59,10 +65,8 @@ fn inner(alloc: Global, level: u8, count: u8) -> Result<Body, Fail> {
     for at in 0..count {
         let mut bytes = [0; 64];
         bytes[1] = at;
-        entries.push(Child {
-            key: Key::new(alloc, &bytes)?,
-            page: Page(9),
-        })?;
+        let key = Key::new(alloc, &bytes)?;
+        put_in(&mut entries, Child { key, page: Page(9) })?;
     }
     Ok(Body::Inner {
         table: 1,

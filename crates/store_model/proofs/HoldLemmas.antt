@@ -7,7 +7,7 @@ use Rattle.std.specs.FinMap.{insert}
 use Rattle.tm_data.specs.declared.log.Group.{Group}
 use Rattle.tm_data.specs.declared.log.Record.{Record}
 use Rattle.page_model.specs.Effects.{page_of, prev_of}
-use Rattle.page_model.specs.Versions.{Held, added, held, link_of, links_of, or_no_links, page_changed, same_link, taken_again, taken_beside}
+use Rattle.page_model.specs.Versions.{Held, added, held, link_of, links_of, or_no_links, changed_page, same_link, taken_again, taken_beside}
 use Rattle.page_model.specs.declared.link.Link.{Link}
 use Rattle.store_model.specs.PageState.{is_of}
 use Rattle.store_model.specs.PageStep.{brought, is_kept, is_on, links_in, with_link, with_links}
@@ -20,35 +20,35 @@ use Rattle.store_model.proofs.ChainLemmas.{among_added, added_has, added_keeps, 
 -- Where a link may be taken: the page's links stay, since it is another page's or one of its stamp is held, or it is
 -- added to them.
 abbrev pub Stays : Held → Link → ℕ → List Link → Type 0
-Stays pages new q ls = (ls ≡ links_of pages q) × (page_changed new.change ≡ q → (old : Link) × (Among old (links_of pages q) × (old.stamp.0 ≡ new.stamp.0)))
+Stays pages new q ls = (ls ≡ links_of pages q) × (changed_page new.change ≡ q → (old : Link) × (Among old (links_of pages q) × (old.stamp.0 ≡ new.stamp.0)))
 
 abbrev pub Adds : Held → Link → ℕ → List Link → Type 0
-Adds pages new q ls = (ls ≡ added (links_of pages q) new) × ((held (links_of pages q) new.stamp.0 ≡ None) × (page_changed new.change ≡ q))
+Adds pages new q ls = (ls ≡ added (links_of pages q) new) × ((held (links_of pages q) new.stamp.0 ≡ None) × (changed_page new.change ≡ q))
 
 again_stays : (pages : Held) (b : Bool) → unwrap_or (taken_again pages b) pages ≡ pages
 again_stays pages true = refl
 again_stays pages false = refl
 
 link_step : (pages : Held) (new : Link) (q : ℕ) → Stays pages new q (links_of (with_link pages new) q) ⊎ Adds pages new q (links_of (with_link pages new) q)
-link_step pages new q = by (held (links_of pages (page_changed new.change)) new.stamp.0) refl
+link_step pages new q = by (held (links_of pages (changed_page new.change)) new.stamp.0) refl
   where
-    here : held (links_of pages (page_changed new.change)) new.stamp.0 ≡ None
-        → Adds pages new (page_changed new.change) (links_of (insert pages (page_changed new.change) (added (links_of pages (page_changed new.change)) new)) (page_changed new.change))
-    here none = (ap or_no_links (get_same pages (page_changed new.change) (added (links_of pages (page_changed new.change)) new)), (none, refl))
+    here : held (links_of pages (changed_page new.change)) new.stamp.0 ≡ None
+        → Adds pages new (changed_page new.change) (links_of (insert pages (changed_page new.change) (added (links_of pages (changed_page new.change)) new)) (changed_page new.change))
+    here none = (ap or_no_links (get_same pages (changed_page new.change) (added (links_of pages (changed_page new.change)) new)), (none, refl))
 
-    on : held (links_of pages (page_changed new.change)) new.stamp.0 ≡ None → (b : Bool) → nat_eq (page_changed new.change) q ≡ b
-        → Stays pages new q (links_of (insert pages (page_changed new.change) (added (links_of pages (page_changed new.change)) new)) q)
-        ⊎ Adds pages new q (links_of (insert pages (page_changed new.change) (added (links_of pages (page_changed new.change)) new)) q)
-    on none true is = inr (subst (λ n. Adds pages new n (links_of (insert pages (page_changed new.change) (added (links_of pages (page_changed new.change)) new)) n)) (same_number (page_changed new.change) q is) (here none))
+    on : held (links_of pages (changed_page new.change)) new.stamp.0 ≡ None → (b : Bool) → nat_eq (changed_page new.change) q ≡ b
+        → Stays pages new q (links_of (insert pages (changed_page new.change) (added (links_of pages (changed_page new.change)) new)) q)
+        ⊎ Adds pages new q (links_of (insert pages (changed_page new.change) (added (links_of pages (changed_page new.change)) new)) q)
+    on none true is = inr (subst (λ n. Adds pages new n (links_of (insert pages (changed_page new.change) (added (links_of pages (changed_page new.change)) new)) n)) (same_number (changed_page new.change) q is) (here none))
     on none false is =
-        inl (ap or_no_links (get_other pages (page_changed new.change) (added (links_of pages (page_changed new.change)) new) q (other_number (page_changed new.change) q is)), λ e. absurd (other_number (page_changed new.change) q is e))
+        inl (ap or_no_links (get_other pages (changed_page new.change) (added (links_of pages (changed_page new.change)) new) q (other_number (changed_page new.change) q is)), λ e. absurd (other_number (changed_page new.change) q is e))
 
-    by : (o : Option Link) → held (links_of pages (page_changed new.change)) new.stamp.0 ≡ o
-        → Stays pages new q (links_of (unwrap_or (taken_beside pages (page_changed new.change) new o) pages) q)
-        ⊎ Adds pages new q (links_of (unwrap_or (taken_beside pages (page_changed new.change) new o) pages) q)
-    by None none = on none (nat_eq (page_changed new.change) q) refl
+    by : (o : Option Link) → held (links_of pages (changed_page new.change)) new.stamp.0 ≡ o
+        → Stays pages new q (links_of (unwrap_or (taken_beside pages (changed_page new.change) new o) pages) q)
+        ⊎ Adds pages new q (links_of (unwrap_or (taken_beside pages (changed_page new.change) new o) pages) q)
+    by None none = on none (nat_eq (changed_page new.change) q) refl
     by (Some old) some =
-        let there : Among old (links_of pages (page_changed new.change)) × (old.stamp.0 ≡ new.stamp.0) = held_there (links_of pages (page_changed new.change)) new.stamp.0 old some in
+        let there : Among old (links_of pages (changed_page new.change)) × (old.stamp.0 ≡ new.stamp.0) = held_there (links_of pages (changed_page new.change)) new.stamp.0 old some in
         inl (ap (λ x. links_of x q) (again_stays pages (same_link old new)), λ e. (old, (subst (λ n. Among old (links_of pages n)) e there.0, there.1)))
 
 -- ---- what is held of a page
@@ -60,7 +60,7 @@ module _ (logs : ℕ → List Group) (q : ℕ) (links : List Link) (history : Is
 
   -- Where it is of the page, it is one of all.
   abbrev pub IsGood : Link → Type 0
-  IsGood l = page_changed l.change ≡ q → Among l links
+  IsGood l = changed_page l.change ≡ q → Among l links
 
   holds_link : (pages : Held) (new : Link) → Holds pages → IsGood new → Holds (with_link pages new)
   holds_link pages new h good = by (links_of (with_link pages new) q) (link_step pages new q) refl
@@ -86,7 +86,7 @@ module _ (logs : ℕ → List Group) (q : ℕ) (links : List Link) (history : Is
       by ls (inl stays) = subst (Among m) (sym stays.0) a
       by ls (inr adds) = subst (Among m) (sym adds.0) (added_keeps (links_of pages q) new m a)
 
-  has_link : (pages : Held) (new : Link) → Holds pages → IsGood new → page_changed new.change ≡ q → Among new (links_of (with_link pages new) q)
+  has_link : (pages : Held) (new : Link) → Holds pages → IsGood new → changed_page new.change ≡ q → Among new (links_of (with_link pages new) q)
   has_link pages new h good at = by (links_of (with_link pages new) q) (link_step pages new q)
     where
       by : (ls : List Link) → Stays pages new q ls ⊎ Adds pages new q ls → Among new ls
@@ -104,11 +104,11 @@ module _ (logs : ℕ → List Group) (q : ℕ) (links : List Link) (history : Is
   keeps_links [] pages m a = a
   keeps_links (l ∷ ls) pages m a = keeps_links ls (with_link pages l) m (keeps_link pages l m a)
 
-  pub has_links : (ls : List Link) (pages : Held) → Holds pages → AllByRecursion IsGood ls → (m : Link) → Among m ls → page_changed m.change ≡ q
+  pub has_links : (ls : List Link) (pages : Held) → Holds pages → AllByRecursion IsGood ls → (m : Link) → Among m ls → changed_page m.change ≡ q
       → Among m (links_of (with_links pages ls) q)
   has_links [] pages h good m a at = absurd a
   has_links (l ∷ ls) pages h good m (inl is) at =
-      keeps_links ls (with_link pages l) m (subst (λ x. Among x (links_of (with_link pages l) q)) (sym is) (has_link pages l h good.0 (subst (λ (x : Link). page_changed x.change ≡ q) is at)))
+      keeps_links ls (with_link pages l) m (subst (λ x. Among x (links_of (with_link pages l) q)) (sym is) (has_link pages l h good.0 (subst (λ (x : Link). changed_page x.change ≡ q) is at)))
   has_links (l ∷ ls) pages h good m (inr a) at = has_links ls (with_link pages l) (holds_link pages l h good.0) good.1 m a at
 
   -- ---- what groups bring of it

@@ -3,8 +3,8 @@ ghost use Rattle.std.specs.Prelude.{◌≡◌, ◌+◌, ◌*◌, ◌≤◌, min,
 ghost use Rattle.tm_base.specs.Sizes.{MOST};
 ghost use Rattle.tm_base.specs.GroupSizes.{record_size, group_size};
 
-use crate::page_size::{body_size, row_size};
-use crate::{Group, Record};
+use crate::page_size::body_size;
+use crate::{Group, Record, row_size};
 
 fn record_size(change: &Record) -> usize
     ensures { result ≡ min (record_size change.now) MOST }

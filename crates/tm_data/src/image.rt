@@ -1,7 +1,8 @@
 //! Images of pages.
 ghost use Rattle.std.specs.Prelude.{◌≡◌};
 
-use crate::{ItemList, Key, Mem, Page, RowList, Stamp, TryCopy};
+use crate::sizes::child_size;
+use crate::{Key, Keyed, KeyedList, Mem, Page, RowList, Stamp, TryCopy};
 
 /// A child of an inner page: the one for the keys from `key` on, up to the next child's.
 #[derive(Debug, Drop, PartialEq, Eq)]
@@ -19,8 +20,24 @@ impl TryCopy for Child {
     }
 }
 
-/// Children in order.
-pub type ChildList = ItemList<Child>;
+impl Keyed for Child {
+    ghost use Rattle.tm_data.specs.Sizes.{child_size};
+
+    ghost key = { λ c. c.key };
+
+    ghost size = { child_size };
+
+    fn key(&self) -> &[u8] {
+        self.key.as_slice()
+    }
+
+    fn size(&self) -> usize {
+        child_size(self)
+    }
+}
+
+/// Children that ascend by key, and the sum of their sizes.
+pub type ChildList = KeyedList<Child>;
 
 /// What a page holds. The fences `low` and `high` say which keys may be there: those from `low` on
 /// and below `high`; none is the open end.

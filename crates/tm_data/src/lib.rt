@@ -6,12 +6,14 @@
 
 mod bytes;
 mod image;
+mod kept;
 mod list;
 mod log;
 mod memory;
 mod row;
 mod row_map;
 mod row_set;
+mod sizes;
 #[cfg(test)]
 mod tests;
 mod transaction;
@@ -20,12 +22,14 @@ mod vector;
 
 pub use bytes::ByteList;
 pub use image::{Body, Child, ChildList, Image};
+pub use kept::{KeyPlace, Keyed, KeyedList, is_less};
 pub use list::{ItemList, TryCopy};
 pub use log::{Group, GroupList, Record, RecordList};
 pub use memory::{Mem, NoMemory};
 pub use row::{Before, Key, LengthError, MAX_KEY, MAX_VALUE, Row, RowList, Value};
 pub use row_map::{RowKey, RowMap};
 pub use row_set::RowSet;
+pub use sizes::{MAX_IMAGE, child_size, fence_size, row_size};
 pub use transaction::{MAX_STAMP, Page, Stamp, Txn, Writer};
 pub use txn_map::TxnMap;
 pub use vector::{Vector, VectorEntry, VectorEntryList};

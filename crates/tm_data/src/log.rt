@@ -1,5 +1,7 @@
 //! Records and groups of a writer's log.
 ghost use Rattle.std.specs.Prelude.{◌≡◌};
+ghost use Rattle.std.specs.Option.{option_map};
+ghost use Rattle.tm_data.specs.Records.{page_of};
 
 use crate::{Body, ItemList, Key, Mem, Page, Row, Stamp, TryCopy, Txn, Vector, Writer};
 
@@ -40,6 +42,22 @@ pub enum Record {
     },
     /// Says nothing but that the clock has come so far.
     Beat,
+}
+
+impl Record {
+    /// The page that it changes, none for one that changes no page.
+    pub fn page(&self) -> Option<Page>
+        ensures { option_map (λ page. page.0) result ≡ page_of self.now }
+    {
+        match self {
+            Record::RowSet { page, .. } => Some(*page),
+            Record::Cut { page, .. } => Some(*page),
+            Record::Format { page, .. } => Some(*page),
+            Record::NodeAdd { page, .. } => Some(*page),
+            Record::End { .. } => None,
+            Record::Beat => None,
+        }
+    }
 }
 
 impl TryCopy for Record {

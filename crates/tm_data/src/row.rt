@@ -1,7 +1,8 @@
 //! Rows: keys, values, and what was there before.
 ghost use Rattle.std.specs.Prelude.{◌≡◌, ◌≢◌, ◌+◌, ◌<◌, ◌≤◌, ◌↔◌, ◌⊎◌, List, ℕ, [], length, IfOk, IfErr, IsErrOf, MatchResult};
 
-use crate::{ByteList, ItemList, Mem, NoMemory, TryCopy, Txn};
+use crate::sizes::row_size;
+use crate::{ByteList, Keyed, KeyedList, Mem, NoMemory, TryCopy, Txn};
 use std::alloc::Global;
 use std::marker::Model;
 
@@ -173,5 +174,21 @@ impl TryCopy for Row {
     }
 }
 
-/// Rows in order.
-pub type RowList = ItemList<Row>;
+impl Keyed for Row {
+    ghost use Rattle.tm_data.specs.Sizes.{row_size};
+
+    ghost key = { λ r. r.key };
+
+    ghost size = { row_size };
+
+    fn key(&self) -> &[u8] {
+        self.key.as_slice()
+    }
+
+    fn size(&self) -> usize {
+        row_size(self)
+    }
+}
+
+/// Rows that ascend by key, and the sum of their sizes.
+pub type RowList = KeyedList<Row>;

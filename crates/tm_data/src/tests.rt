@@ -1,7 +1,7 @@
 //! What no clause says: that the calls answer with ample memory, and the edges by example.
 use crate::{
-    Before, Body, ByteList, Child, Group, Image, ItemList, Key, LengthError, Page, Record, Row,
-    Stamp, TryCopy, Txn, Value, Vector, VectorEntry, Writer,
+    Before, Body, ByteList, Child, ChildList, Group, Image, ItemList, Key, KeyPlace, LengthError,
+    Page, Record, Row, RowList, Stamp, TryCopy, Txn, Value, Vector, VectorEntry, Writer,
 };
 use std::alloc::Global;
 use std::process::Abort;
@@ -52,8 +52,10 @@ fn row(alloc: Global) -> Result<Row, Fail> {
 }
 
 fn leaf(alloc: Global) -> Result<Body, Fail> {
-    let mut rows = ItemList::new(alloc);
-    rows.push(row(alloc)?)?;
+    let mut rows = RowList::new(alloc);
+    let row = row(alloc)?;
+    let place = rows.place(row.key.as_slice());
+    rows.set(row, place)?;
     let high = Key::new(alloc, b"z")?;
     Ok(Body::Leaf {
         table: 1,
@@ -63,10 +65,49 @@ fn leaf(alloc: Global) -> Result<Body, Fail> {
     })
 }
 
+/// A row of this key and no value, which has 14 bytes.
+fn bare(alloc: Global, key: &[u8]) -> Result<Row, Fail> {
+    let txn = Txn {
+        writer: Writer(1),
+        number: 2,
+    };
+    let key = Key::new(alloc, key)?;
+    Ok(Row {
+        key,
+        txn,
+        now: None,
+        before: Before::Same,
+    })
+}
+
+#[test]
+fn rows_keep_their_order_and_their_size(rt: HostRuntime) -> Result<(), Fail> {
+    let mut rows = RowList::with_capacity(rt.alloc(), 2)?;
+    rows.push(bare(rt.alloc(), b"m")?)?;
+    for key in [b"c", b"x", b"m"] {
+        let row = bare(rt.alloc(), key)?;
+        let place = rows.place(row.key.as_slice());
+        rows.set(row, place)?;
+    }
+    assert_eq!(rt; rows.len(), 3);
+    assert_eq!(rt; rows.size(), 42);
+    assert_eq!(rt; rows.size_below(b"x"), 28);
+    assert_eq!(rt; rows.place(b"c"), KeyPlace::At(0));
+    assert_eq!(rt; rows.place(b"d"), KeyPlace::Before(1));
+    assert_eq!(rt; rows.place(b"z"), KeyPlace::Before(3));
+    let front = rows.copy_front(1)?;
+    let back = rows.copy_back(1)?;
+    rows.cut(b"d");
+    assert!(rt; rows == front);
+    assert_eq!(rt; back.size(), 28);
+    Ok(())
+}
+
 fn inner(alloc: Global) -> Result<Body, Fail> {
     let key = Key::new(alloc, b"m")?;
-    let mut entries = ItemList::new(alloc);
-    entries.push(Child { key, page: Page(9) })?;
+    let mut entries = ChildList::new(alloc);
+    let place = entries.place(key.as_slice());
+    entries.set(Child { key, page: Page(9) }, place)?;
     Ok(Body::Inner {
         table: 1,
         level: 1,

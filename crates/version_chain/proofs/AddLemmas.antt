@@ -11,7 +11,7 @@ use Rattle.std.specs.FinMap.{empty, get, insert, get-empty, get-insert}
 use Rattle.std.proofs.lemmas.Bool.Decides.{nat_tests}
 use Rattle.page_model.specs.declared.link.Link.{Link}
 use Rattle.page_model.specs.Effects.{page_of, prev_of}
-use Rattle.page_model.specs.Versions.{Held, held, added, links_of, or_no_links, page_changed, taken, taken_again, taken_beside, same_link}
+use Rattle.page_model.specs.Versions.{Held, held, added, links_of, or_no_links, changed_page, taken, taken_again, taken_beside, same_link}
 use Rattle.version_chain.specs.declared.place.Place.TheVariants.{At, Before}
 use Rattle.version_chain.specs.Inside.{IsLink, IsChain, IsHeld, Rises, IsPlaceOf, inserted}
 use Rattle.version_chain.proofs.ChainLemmas.{rises}
@@ -25,10 +25,10 @@ chain_of pages page links is h = subst (λ l. IsChain page l) (sym is) (h page)
 pub rising : (pages : Held) (page : ℕ) (links : List Link) → reverse links ≡ links_of pages page → IsHeld pages → Rises links
 rising pages page links is h = rises page _ links (chain_of pages page links is h)
 
-found : (pages : Held) (page : ℕ) (links : List Link) (new : Link) (o : Option Link) → reverse links ≡ links_of pages page → page ≡ page_changed new.change → held (reverse links) new.stamp.0 ≡ o
-    → taken pages new ≡ taken_beside pages (page_changed new.change) new o
+found : (pages : Held) (page : ℕ) (links : List Link) (new : Link) (o : Option Link) → reverse links ≡ links_of pages page → page ≡ changed_page new.change → held (reverse links) new.stamp.0 ≡ o
+    → taken pages new ≡ taken_beside pages (changed_page new.change) new o
 found pages page links new o is page_is at =
-    ap (taken_beside pages (page_changed new.change) new) (ap (λ n. held (links_of pages n) new.stamp.0) (sym page_is) ∙ ap (λ l. held l new.stamp.0) (sym is) ∙ at)
+    ap (taken_beside pages (changed_page new.change) new) (ap (λ n. held (links_of pages n) new.stamp.0) (sym page_is) ∙ ap (λ l. held l new.stamp.0) (sym is) ∙ at)
 
 pub held_empty : (pages : Held) → pages ≡ empty → IsHeld pages
 held_empty pages is = λ q.
@@ -37,14 +37,14 @@ held_empty pages is = λ q.
 
 -- ---- a link of the stamp is held
 
-pub taken_held : (pages : Held) (page : ℕ) (links : List Link) (at : ℕ) (l new : Link) → reverse links ≡ links_of pages page → page ≡ page_changed new.change → IsHeld pages
+pub taken_held : (pages : Held) (page : ℕ) (links : List Link) (at : ℕ) (l new : Link) → reverse links ≡ links_of pages page → page ≡ changed_page new.change → IsHeld pages
     → IsPlaceOf (At at) links new.stamp.0 → l ≡ get_or links at l → taken pages new ≡ taken_again pages (same_link l new)
 taken_held pages page links at l new is page_is h place l_is =
     found pages page links new (Some l) is page_is (held_at page _ links at l new.stamp.0 place.0 (place.1 l) (chain_of pages page links is h) ∙ ap Some (sym l_is))
 
 -- ---- none is held
 
-pub taken_new : (pages : Held) (page : ℕ) (links : List Link) (at : ℕ) (new : Link) → reverse links ≡ links_of pages page → page ≡ page_changed new.change
+pub taken_new : (pages : Held) (page : ℕ) (links : List Link) (at : ℕ) (new : Link) → reverse links ≡ links_of pages page → page ≡ changed_page new.change
     → IsPlaceOf (Before at) links new.stamp.0 → taken pages new ≡ Some (insert pages page (inserted (links_of pages page) at new))
 taken_new pages page links at new is page_is place =
     found pages page links new None is page_is (held_between links at new.stamp.0 place.1)
@@ -70,7 +70,7 @@ held_after pages page links h chain = λ q. by q (is_at (nat_cmp q) page) refl
         subst (λ l. IsChain q l) (sym (links_after pages page links q true is)) (subst (λ n. IsChain n links) (sym same) chain)
     by q false is = subst (λ l. IsChain q l) (sym (links_after pages page links q false is)) (h q)
 
-pub held_new : (pages more : Held) (page : ℕ) (links : List Link) (at : ℕ) (new : Link) → reverse links ≡ links_of pages page → page ≡ page_changed new.change
+pub held_new : (pages more : Held) (page : ℕ) (links : List Link) (at : ℕ) (new : Link) → reverse links ≡ links_of pages page → page ≡ changed_page new.change
     → IsSome (page_of new.change) → prev_of new.change < new.stamp.0 → new.stamp.0 < 2 ^ 64 → IsPlaceOf (Before at) links new.stamp.0
     → more ≡ insert pages page (inserted (links_of pages page) at new) → IsHeld pages → IsHeld more
 held_new pages more page links at new is page_is names later fits place more_is h =

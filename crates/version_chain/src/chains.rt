@@ -2,7 +2,7 @@
 ghost use Rattle.std.specs.Prelude.{◌≡◌, ◌<◌, IsSome, OnOk, OnErr, Some, None, IsErrOf};
 ghost use Rattle.std.specs.FinMap.{empty};
 ghost use Rattle.page_model.specs.Effects.{page_of, prev_of};
-ghost use Rattle.page_model.specs.Versions.{links_of, link_of, taken, page_changed, same_link, version, version_upto, version_at_cut};
+ghost use Rattle.page_model.specs.Versions.{links_of, link_of, taken, changed_page, same_link, version, version_upto, version_at_cut};
 ghost use Rattle.version_chain.specs.Answers.{Tells, Adds};
 
 use crate::chain_map::ChainMap;
@@ -54,7 +54,7 @@ impl Chains {
         requires later { prev_of change.now < stamp.0 }
         ensures { Adds result self.old self.new (link_of writer.0 stamp.0 change.now) }
     {
-        let page = page_changed(change);
+        let page = changed_page(change);
         let links = self.pages.links(page);
         match place_of(links, stamp) {
             Place::At(at) => {
@@ -114,15 +114,11 @@ fn is_same(link: &Link, writer: Writer, change: &Record) -> bool
 }
 
 /// The number of the page that a record changes, 0 where it changes none.
-fn page_changed(change: &Record) -> u32
-    ensures { result ≡ page_changed change.now }
+fn changed_page(change: &Record) -> u32
+    ensures { result ≡ changed_page change.now }
 {
-    match change {
-        Record::RowSet { page, .. } => page.0,
-        Record::Cut { page, .. } => page.0,
-        Record::Format { page, .. } => page.0,
-        Record::NodeAdd { page, .. } => page.0,
-        Record::End { .. } => 0,
-        Record::Beat => 0,
+    match change.page() {
+        Some(page) => page.0,
+        None => 0,
     }
 }

@@ -3,7 +3,8 @@ use Rattle.std.specs.Prelude.{is_some, min, nat_le}
 use Rattle.tm_data.specs.declared.image.Child.{Child}
 use Rattle.tm_base.specs.Sizes.{MOST, size_with}
 use Rattle.page_model.specs.Effects.{child_added}
-use Rattle.page_redo.specs.Places.{child_place, child_place_in, is_before}
+use Rattle.page_model.specs.Placed.{child_place, is_before}
+use Rattle.page_redo.specs.Places.{child_place_in}
 use Rattle.page_redo.proofs.SetLemmas.{inner_suits, inner_outside, inner_held}
 use Rattle.page_redo.proofs.suits.child_suits.Goals as goal
 

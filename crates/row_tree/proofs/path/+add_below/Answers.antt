@@ -1,29 +1,22 @@
-use Rattle.std.proofs.Common.{sym, subst}
-use Rattle.tm_data.specs.declared.image.Child.{Child}
-use Rattle.std.proofs.Common.{List, Result}
+use Rattle.std.proofs.Common.{sym, subst, List, Result}
 use Rattle.tm_data.specs.declared.transaction.Page.{Page}
-use Rattle.page_model.specs.Sound.{Ascend, child_key}
-use Rattle.page_model.specs.Tree.{level_of, path_below, there}
+use Rattle.page_model.specs.Tree.{level_of, path_below}
 use Rattle.row_tree.specs.Inside.{place_of, GoesOn}
-use Rattle.row_tree.proofs.PathLemmas.{missing, found, goes_on, entries_ascend, there-sound, one_below-is}
+use Rattle.row_tree.proofs.PathLemmas.{missing, found, goes_on}
 use Rattle.row_tree.proofs.path.+add_below.Goals as goal
 
 pub returns-in_default-one_below : goal.returns-in_default-one_below
-returns-in_default-one_below g t c = λ sound ok.
+returns-in_default-one_below g t c =
     let i = c.in-Inner in
-    let up = entries_ascend c.args.body.now i.table i.level i.low i.high i.first i.entries i.is ok in
-    missing (g.P.Pages.images c.args.pages.now) c.args.table c.args.key.now c.args.body.now i.table i.level i.low i.high i.first i.entries c.as_slice.result.now (place_of c.child_for-place.result)
-    i.is c.as_slice.ensures (c.child_for-place.ensures (subst (λ (es : List Child). Ascend child_key es) (sym c.as_slice.ensures) up)) c.in_default-one_below.ensures
+    missing (g.P.Pages.images c.args.pages.now) c.args.table c.args.key.now c.args.body.now i.table i.level i.low i.high i.first i.entries (place_of c.child_for-place.result)
+    i.is c.child_for-place.ensures c.in_default-one_below.ensures
 
 pub returns : goal.returns
-returns g t c = λ sound ok.
+returns g t c =
     let i = c.in-Inner in
     let images = g.P.Pages.images c.args.pages.now in
-    let up = entries_ascend c.args.body.now i.table i.level i.low i.high i.first i.entries i.is ok in
-    let way = found images c.args.table c.args.key.now c.args.body.now i.table i.level i.low i.high i.first i.entries c.as_slice.result.now (place_of c.child_for-place.result) c.in-Some.child.now
-    i.is c.as_slice.ensures (c.child_for-place.ensures (subst (λ (es : List Child). Ascend child_key es) (sym c.as_slice.ensures) up)) c.in-Some.ensures in
-    let here = one_below-is i.level (there images c.args.table (place_of c.child_for-place.result)) c.in-Some.child.now (sym c.in-Some.ensures) in
-    let child_ok = there-sound images c.args.table (place_of c.child_for-place.result) c.in-Some.child.now sound here.0 in
+    let way = found images c.args.table c.args.key.now c.args.body.now i.table i.level i.low i.high i.first i.entries (place_of c.child_for-place.result) c.in-Some.child.now
+    i.is c.child_for-place.ensures c.in-Some.ensures in
     subst (λ (w : Result (List Page) Page). GoesOn c.args.path.now c.add_below.new.path c.add_below.result w) (sym way)
     (goes_on c.args.path.now c.push.new.self c.add_below.new.path c.child_for-place.result.page c.add_below.result (path_below images c.args.table c.args.key.now (level_of c.in-Some.child.now) c.in-Some.child.now)
-    c.in_ok-push.ensures.ok (c.add_below.ensures sound child_ok))
+    c.in_ok-push.ensures.ok c.add_below.ensures)

@@ -1,8 +1,0 @@
-use Rattle.std.proofs.Common.{◌≡◌, take}
-use Rattle.std.specs.Prelude.{min, sum_by}
-use Rattle.tm_base.specs.Sizes.{MOST, row_size}
-use Rattle.page_model.specs.Effects.{rows_below}
-use Rattle.page_redo.proofs.suits.rows_size_below.Given as goal
-
-abbrev pub invariant-loop-item : goal.invariant-loop-item
-invariant-loop-item l = l.total ≡ min (sum_by row_size (rows_below l.at (take l.item-index l.rows))) MOST
