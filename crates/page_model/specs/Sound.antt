@@ -7,13 +7,9 @@ use Rattle.tm_data.specs.declared.image.Body.{Body}
 use Rattle.tm_data.specs.declared.image.Body.TheVariants.{Blank, Leaf, Inner}
 use Rattle.tm_data.specs.declared.image.Image.{Image}
 use Rattle.tm_base.specs.Sizes.{row_size, fence_size, size_with}
-use Rattle.key_fences.specs.Fences.{key_less, is_within, leave_room}
+use Rattle.key_fences.specs.Fences.{is_within, leave_room}
 use Rattle.page_model.specs.Tree.{Images}
-
--- Each key is below all that come after it.
-abbrev pub Ascend : {A : Type 0} → (A → List ℕ) → List A → Type 0
-Ascend key [] = Unit {0}
-Ascend key (x ∷ xs) = AllByRecursion (λ y. key_less (key x) (key y) ≡ true) xs × Ascend key xs
+pub use Rattle.tm_data.specs.Kept.{Ascend}
 
 abbrev pub key_of : Row → List ℕ
 key_of r = r.key

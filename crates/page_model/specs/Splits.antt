@@ -1,5 +1,5 @@
 -- The groups of records that put a row into a table, with the splits of pages that have no room.
-use Rattle.std.specs.Prelude.{ℕ, ◌+◌, ◌-◌, ◌*◌, ◌/◌, Bool, false, cond, nat_lt, nat_le, List, [], ◌∷◌, length, take, drop, reverse, sum_by, Option, Some, None, unwrap_or, Result, Ok, Err}
+use Rattle.std.specs.Prelude.{ℕ, ◌+◌, ◌-◌, ◌*◌, ◌/◌, Bool, false, cond, nat_lt, nat_le, List, [], ◌∷◌, length, take, drop, reverse, sum_by, Option, Some, None, Result, Ok, Err}
 use Rattle.tm_data.specs.declared.transaction.Page.{Page}
 use Rattle.tm_data.specs.declared.row.Row.{Row}
 use Rattle.tm_data.specs.declared.image.Child.{Child}
@@ -11,8 +11,9 @@ use Rattle.tm_data.specs.declared.log.Record.TheVariants.{RowSet, Cut, Format, N
 use Rattle.tm_base.specs.Sizes.{row_size, size_with}
 pub use Rattle.tm_data.specs.Records.{changed_page}
 use Rattle.key_fences.specs.Fences.{key_less}
-use Rattle.page_model.specs.Effects.{row_set, page_of}
+use Rattle.page_model.specs.Effects.{row_set}
 use Rattle.page_model.specs.Tree.{Images, level_of, table_of, low_of, high_of}
+pub use Rattle.tm_data.specs.Records.{changed_page}
 
 -- ---- halves
 
