@@ -1,11 +1,9 @@
-//! Leases by page, in the order of the pages.
-ghost use Rattle.std.specs.Prelude.{◌≡◌, ◌<◌, ◌≤◌, ◌^◌, ◌+◌, ℕ, OnOk, OnErr, IfSome, IfNone, IsSome, None, Some};
+//! Leases by page.
+ghost use Rattle.std.specs.Prelude.{◌≡◌, OnOk, OnErr, IsSome, None};
 ghost use Rattle.std.specs.Option.{option_copied};
 ghost use Rattle.std.specs.FinMap.{empty};
 ghost use Rattle.lease_desk.specs.Desk.{Leases};
 ghost use Rattle.std.specs.FinMap as map;
-ghost use Rattle.std.specs.BTreeMap as tree;
-ghost use Rattle.std.specs.Ordering.{nat_cmp};
 
 use crate::PageLease;
 use std::alloc::Global;
@@ -66,29 +64,5 @@ impl LeaseMap {
         ensures { self.new ≡ map.insert self.old page lease }
     {
         let _ = self.put(page, lease);
-    }
-
-    /// The first page with a number above `after`, and what is kept of it.
-    pub(crate) fn first_after(&self, after: u32) -> Option<(u32, PageLease)>
-        ensures there { IfSome result (λ e. (after < e.0) × (map.get self.now e.0 ≡ Some e.1)) }
-        ensures least { IfSome result (λ e. (page : ℕ) → after < page → page < e.0 → map.get self.now page ≡ None) }
-        ensures none { IfNone result ((page : ℕ) → after < page → page < 2 ^ 32 → map.get self.now page ≡ None) }
-    {
-        if after == u32::MAX {
-            return None;
-        }
-        first_from(&self.leases, after + 1)
-    }
-}
-
-/// The first entry whose number is at least `least`.
-fn first_from(leases: &BTreeMap<u32, PageLease>, least: u32) -> Option<(u32, PageLease)>
-    ensures there { IfSome result (λ e. (least ≤ e.0) × (tree.get nat_cmp leases.now e.0 ≡ Some e.1)) }
-    ensures first { IfSome result (λ e. (page : ℕ) → least ≤ page → IsSome (tree.get nat_cmp leases.now page) → e.0 ≤ page) }
-    ensures none { IfNone result ((page : ℕ) → least ≤ page → tree.get nat_cmp leases.now page ≡ None) }
-{
-    match leases.range(least..).next() {
-        Some((page, lease)) => Some((*page, *lease)),
-        None => None,
     }
 }
