@@ -9,7 +9,7 @@ use Rattle.tm_data.specs.declared.image.Image.{Image}
 use Rattle.tm_base.specs.Sizes.{row_size, fence_size, size_with}
 use Rattle.key_fences.specs.Fences.{is_within, leave_room}
 use Rattle.page_model.specs.Tree.{Images}
-pub use Rattle.tm_data.specs.Kept.{Ascend}
+pub use Rattle.tm_lists.specs.Kept.{Ascend}
 
 abbrev pub key_of : Row → List ℕ
 key_of r = r.key
