@@ -1,0 +1,12 @@
+pub mod Tags
+pub mod State
+pub mod Fates
+pub mod Paths
+pub mod Logging
+pub mod Reads
+pub mod Writes
+pub mod Ends
+pub mod Leases
+pub mod Acks
+pub mod Recovery
+pub mod Step
