@@ -8,7 +8,7 @@ use crate::failure::Failure;
 use page_redo::{apply, initial};
 use row_tree::{Pages, Path, Plan, PlanError, find, plan_put};
 use std::alloc::Global;
-use tm_base::{Body, Image, Key, KeyPlace, Page, Record, RowList, Stamp};
+use tm_base::{Body, Image, Key, KeyPlace, Page, Record, Row, RowList, Stamp};
 
 /// The table, whose root is the page of its number.
 const TABLE: u16 = 1;
