@@ -6,6 +6,7 @@ use Rattle.std.proofs.lemmas.List.{reverse-append}
 use Rattle.std.proofs.lemmas.Bool.Decides.{nat_tests}
 use Rattle.tm_data.specs.declared.image.Image.{Image}
 use Rattle.page_model.specs.Pool.{Pool, OneEach, image_of, without, in_front, used_if, replaced, first_durable, last_durable, put_for, put_if_room, put_beside, put_in}
+pub use Rattle.page_model.specs.Lists.{Among as IsIn}
 
 -- ---- without a page
 
@@ -109,10 +110,6 @@ one_put p image durable images one is =
     ]
 
 -- ---- what stays
-
-abbrev pub IsIn : Image → List Image → Type 0
-IsIn x [] = ⊥
-IsIn x (y ∷ ys) = (x ≡ y) ⊎ IsIn x ys
 
 pub in_append : (x : Image) (xs ys : List Image) → IsIn x (xs ++ ys) → IsIn x xs ⊎ IsIn x ys
 in_append x [] ys h = inr h

@@ -63,31 +63,31 @@ writer_is a b h = λ i. record { 0 = (unsigned_Decides a.0 b.0).0 h i }
 writer_same : (a b : Writer) → a ≡ b → same_writer a b ≡ true
 writer_same a b h = (unsigned_Decides a.0 b.0).1 (ap (λ w. w.0) h)
 
-txn_is : (a b : Txn) → same_txn a b ≡ true → a ≡ b
+pub txn_is : (a b : Txn) → same_txn a b ≡ true → a ≡ b
 txn_is a b h = λ i. record {
   writer = record { 0 = (unsigned_Decides a.writer.0 b.writer.0).0 (first_true _ _ h) i };
   number = (unsigned_Decides a.number b.number).0 (second_true _ _ h) i;
 }
 
-txn_same : (a : Txn) → same_txn a a ≡ true
+pub txn_same : (a : Txn) → same_txn a a ≡ true
 txn_same a = both_true _ _ ((unsigned_Decides a.writer.0 a.writer.0).1 refl) ((unsigned_Decides a.number a.number).1 refl)
 
-row_is : (a b : RowKey) → same_row a b ≡ true → a ≡ b
+pub row_is : (a b : RowKey) → same_row a b ≡ true → a ≡ b
 row_is a b h = λ i. record {
   table = (unsigned_Decides a.table b.table).0 (first_true _ _ h) i;
   key = (pointwise_decides unsigned_Decides a.key b.key).0 (second_true _ _ h) i;
 }
 
-row_same : (a : RowKey) → same_row a a ≡ true
+pub row_same : (a : RowKey) → same_row a a ≡ true
 row_same a = both_true _ _ ((unsigned_Decides a.table a.table).1 refl) ((pointwise_decides unsigned_Decides a.key a.key).1 refl)
 
-value_is : (a b : Option (List ℕ)) → same_value a b ≡ true → a ≡ b
+pub value_is : (a b : Option (List ℕ)) → same_value a b ≡ true → a ≡ b
 value_is None None h = refl
 value_is None (Some y) h = absurd (not_both false h refl)
 value_is (Some x) None h = absurd (not_both false h refl)
 value_is (Some x) (Some y) h = ap Some ((pointwise_decides unsigned_Decides x y).0 h)
 
-value_same : (a : Option (List ℕ)) → same_value a a ≡ true
+pub value_same : (a : Option (List ℕ)) → same_value a a ≡ true
 value_same None = refl
 value_same (Some x) = (pointwise_decides unsigned_Decides x x).1 refl
 

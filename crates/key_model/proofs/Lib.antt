@@ -1,5 +1,7 @@
-mod AnyLemmas
+pub mod AnyLemmas
 mod BeginLemmas
-mod LawLemmas
+pub mod EventLemmas
+pub mod FoldLemmas
+pub mod LawLemmas
 mod OpenLemmas
 mod ValuedLemmas

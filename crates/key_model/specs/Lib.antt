@@ -1,4 +1,8 @@
 pub mod After
+pub mod Causes
+pub mod Clean
+pub mod Cuts
+pub mod Events
 pub mod Inside
 pub mod State
 pub mod Steps

@@ -5,6 +5,7 @@
 #![tactic(auto)]
 
 mod closed;
+mod events;
 pub mod laws;
 mod machine;
 mod opened;
@@ -14,6 +15,10 @@ mod step;
 mod tests;
 mod values;
 
+pub use events::{
+    Count, CountList, EndList, Ended, Event, EventKind, EventList, PutKey, PutList, RowList,
+    TableRow,
+};
 pub use machine::Machine;
 pub use sessions::Session;
 pub use step::MachineStep;

@@ -1,19 +1,15 @@
 -- What every stored image has, whatever page it is of.
-use Rattle.std.specs.Prelude.{◌≡◌, ℕ, ◌≤◌, true, List, [], ◌∷◌, length, Option, Some}
+use Rattle.std.specs.Prelude.{◌≡◌, ℕ, ◌≤◌, true, List, length, Option, Some}
 use Rattle.std.specs.List.{AllByRecursion}
 use Rattle.tm_data.specs.declared.row.Row.{Row}
 use Rattle.tm_data.specs.declared.image.Child.{Child}
 use Rattle.tm_data.specs.declared.image.Body.{Body}
 use Rattle.tm_data.specs.declared.image.Body.TheVariants.{Blank, Leaf, Inner}
 use Rattle.tm_data.specs.declared.image.Image.{Image}
+pub use Rattle.tm_data.specs.Kept.{Ascend}
 use Rattle.tm_base.specs.Sizes.{row_size, fence_size, size_with}
-use Rattle.key_fences.specs.Fences.{key_less, is_within, leave_room}
+use Rattle.key_fences.specs.Fences.{is_within, leave_room}
 use Rattle.page_model.specs.Tree.{Images}
-
--- Each key is below all that come after it.
-abbrev pub Ascend : {A : Type 0} → (A → List ℕ) → List A → Type 0
-Ascend key [] = Unit {0}
-Ascend key (x ∷ xs) = AllByRecursion (λ y. key_less (key x) (key y) ≡ true) xs × Ascend key xs
 
 abbrev pub key_of : Row → List ℕ
 key_of r = r.key

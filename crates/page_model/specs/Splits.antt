@@ -1,5 +1,5 @@
 -- The groups of records that put a row into a table, with the splits of pages that have no room.
-use Rattle.std.specs.Prelude.{ℕ, ◌+◌, ◌-◌, ◌*◌, ◌/◌, Bool, false, cond, nat_lt, nat_le, List, [], ◌∷◌, length, take, drop, reverse, sum_by, Option, Some, None, unwrap_or, Result, Ok, Err}
+use Rattle.std.specs.Prelude.{ℕ, ◌+◌, ◌-◌, ◌*◌, ◌/◌, Bool, false, cond, nat_lt, nat_le, List, [], ◌∷◌, length, take, drop, reverse, sum_by, Option, Some, None, Result, Ok, Err}
 use Rattle.tm_data.specs.declared.transaction.Page.{Page}
 use Rattle.tm_data.specs.declared.row.Row.{Row}
 use Rattle.tm_data.specs.declared.image.Child.{Child}
@@ -10,7 +10,8 @@ use Rattle.tm_data.specs.declared.log.Record.{Record}
 use Rattle.tm_data.specs.declared.log.Record.TheVariants.{RowSet, Cut, Format, NodeAdd}
 use Rattle.tm_base.specs.Sizes.{row_size, size_with}
 use Rattle.key_fences.specs.Fences.{key_less}
-use Rattle.page_model.specs.Effects.{row_set, page_of}
+use Rattle.page_model.specs.Effects.{row_set}
+pub use Rattle.tm_data.specs.Records.{changed_page}
 use Rattle.page_model.specs.Tree.{Images, level_of, table_of, low_of, high_of}
 
 -- ---- halves
@@ -85,10 +86,6 @@ page_above row [] = None
 page_above row (i ∷ is) = cond (is_full row i.body) (page_above row is) (Some i)
 
 -- ---- records
-
--- The page that a record of a split names.
-abbrev pub changed_page : Record → ℕ
-changed_page change = unwrap_or (page_of change) 0
 
 -- A group's records are in the order of their pages.
 abbrev pub placed : Record → List Record → List Record

@@ -1,5 +1,5 @@
 -- A set of images tiles a table; and when a group of records fits the images that it names.
-use Rattle.std.specs.Prelude.{◌≡◌, ◌≢◌, ◌⊎◌, ℕ, ◌+◌, ◌≤◌, ◌<◌, true, cond, nat_eq, List, [], ◌∷◌, ◌++◌, Option, Some, None, IsSome, Contains}
+use Rattle.std.specs.Prelude.{◌≡◌, ◌≢◌, ◌⊎◌, ℕ, ◌+◌, ◌≤◌, ◌<◌, Bool, true, false, cond, nat_eq, List, [], ◌∷◌, ◌++◌, Option, Some, None, IsSome, Contains}
 use Rattle.std.specs.List.{AllByRecursion}
 use Rattle.std.specs.Ordering.{nat_cmp}
 use Rattle.std.specs.Cmp.Lexicographic.{slice_cmp}
@@ -13,9 +13,9 @@ use Rattle.tm_data.specs.declared.image.Image.{Image}
 use Rattle.tm_data.specs.declared.log.Record.{Record}
 use Rattle.tm_base.specs.Sizes.{size_with}
 use Rattle.key_fences.specs.Fences.{is_within, is_strictly_within}
-use Rattle.page_model.specs.Effects.{row_set, cut_at, child_added, redone_at}
+use Rattle.page_model.specs.Effects.{initial, row_set, cut_at, child_added, redone_at, page_of}
 use Rattle.page_model.specs.Tree.{Images, level_of, table_of, low_of, high_of, is_of, may_hold, children, child_for, there, one_below, root}
-use Rattle.page_model.specs.Splits.{Halves, changed_page, spot_of, row_group, split_group, root_group}
+use Rattle.page_model.specs.Splits.{Halves, spot_of, row_group, split_group, root_group}
 use Rattle.page_model.specs.Sound.{IsSound, IsSoundRow}
 
 -- ---- tiling
@@ -65,10 +65,15 @@ pub record IsMap (images : Images) (table : ℕ) (m : FinMap (slice_cmp nat_cmp)
 
 -- ---- what a group makes of a set of images
 
+-- The page that a record names, if it names one, is this one.
+abbrev pub is_named : Option ℕ → ℕ → Bool
+is_named None page = false
+is_named (Some named) page = nat_eq named page
+
 -- The record of a group that changes the page.
 abbrev pub record_on : ℕ → List Record → Option Record
 record_on page [] = None
-record_on page (r ∷ rs) = cond (nat_eq (changed_page r) page) (Some r) (record_on page rs)
+record_on page (r ∷ rs) = cond (is_named (page_of r) page) (Some r) (record_on page rs)
 
 abbrev pub changed : Option Image → Option Record → ℕ → Option Image
 changed image None stamp = image
@@ -78,6 +83,10 @@ changed (Some image) (Some change) stamp = redone_at image change stamp
 -- The images after a group of this stamp. An image that its record doesn't suit is gone.
 abbrev pub after : Images → List Record → ℕ → Images
 after images group stamp page = changed (images page) (record_on page group) stamp
+
+-- The first version of each page.
+abbrev pub first_images : Images
+first_images page = Some (initial (record { 0 = page }))
 
 -- The images after groups with stamps from this one on.
 abbrev pub after_all : Images → List (List Record) → ℕ → Images
@@ -158,12 +167,19 @@ pub record SplitsRoot (images : Images) (stamp : ℕ) (group : List Record) (tab
   pub parted : AreHalves page.body h
   pub is : group ≡ root_group page h left right
 
--- A group fits the images that it names.
+-- A group on no page: an End or a Beat, which stands alone.
+pub record IsOnNoPage (group : List Record) : Type 0 where
+  pub change : Record
+  pub names : page_of change ≡ None
+  pub is : group ≡ change ∷ []
+
+-- A group fits the images that it names: it is a put, a split, a split of a root, or on no page.
 abbrev pub Fits : Images → ℕ → List Record → ℕ → Type 0
 Fits images stamp group table =
     ((row : Row) × (leaf : Image) × PutsRow images stamp group table row leaf)
     ⊎ ((page : Image) × (parent : Image) × (h : Halves) × (fresh : Page) × Splits images stamp group table page parent h fresh)
     ⊎ ((page : Image) × (h : Halves) × (left : Page) × (right : Page) × SplitsRoot images stamp group table page h left right)
+    ⊎ IsOnNoPage group
 
 -- Groups with stamps from this one on fit, each the images after the ones before it.
 abbrev pub FitInTurn : Images → ℕ → List (List Record) → ℕ → Type 0

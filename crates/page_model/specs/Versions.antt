@@ -4,7 +4,6 @@
 -- record makes of the version at its `prev`, which is an older one.
 use Rattle.std.specs.Prelude.{ℕ, Bool, true, false, cond, ◌&&◌, nat_eq, nat_lt, nat_le, List, [], ◌∷◌}
 use Rattle.std.specs.Ordering.{nat_cmp}
-use Rattle.std.specs.Option.{unwrap_or}
 use Rattle.std.specs.FinMap.{FinMap, get, insert}
 use Rattle.std.specs.FinMap as fin
 use Rattle.std.specs.Coded.{Coded, coded_ℕ, coded_list}
@@ -18,10 +17,10 @@ use Rattle.tm_data.specs.declared.image.Image.{Image}
 use Rattle.tm_data.specs.declared.log.Record.{Record}
 use Rattle.tm_data.specs.declared.vector.VectorEntry.{VectorEntry}
 use Rattle.tm_data.specs.Vectors.{stamp_of}
-use Rattle.page_model.specs.Effects.{initial, redone_at, page_of, prev_of}
-pub use Rattle.tm_data.specs.Records.{changed_page}
+use Rattle.page_model.specs.Effects.{initial, redone_at, prev_of}
 use Rattle.page_model.specs.contracts.link.Link as link
 pub use Rattle.page_model.specs.declared.link.Link.{Link}
+pub use Rattle.page_model.specs.Splits.{changed_page}
 
 -- ---- the versions of a page
 

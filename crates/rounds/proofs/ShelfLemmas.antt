@@ -4,8 +4,7 @@ use Rattle.std.proofs.lemmas.Bool.Decides.{nat_tests}
 use Rattle.tm_data.specs.declared.image.Image.{Image}
 use Rattle.tm_data.specs.declared.log.Record.{Record}
 use Rattle.page_model.specs.Effects.{page_of, redone_at}
-use Rattle.page_model.specs.Splits.{changed_page}
-use Rattle.page_model.specs.Tiling.{changed}
+use Rattle.page_model.specs.Tiling.{is_named, changed}
 use Rattle.rounds.specs.Shelves.{images_on, Redoes}
 
 own_set : (xs : List Image) (i : ℕ) (x y : Image) → slice_get xs i ≡ Some x → slice_get (set xs i y) i ≡ Some y
@@ -45,16 +44,16 @@ untouched root xs at p y differ = by (nat_eq p 1) (nat_lt p 1025) refl
 pub indexed_redone : (root : Image) (others : List Image) (change : Record) (stamp page at : ℕ) (image new : Image)
     → page_of change ≡ Some page → page ≡ at + 1025 → slice_get others at ≡ Some image → redone_at image change stamp ≡ Some new
     → Redoes (images_on root others) (images_on root (set others at new)) change stamp
-indexed_redone root others change stamp page at image new names place there made p = by (nat_eq (changed_page change) p) refl
+indexed_redone root others change stamp page at image new names place there made p = by (is_named (page_of change) p) named
   where
-    named : changed_page change ≡ page
-    named = rw names refl
+    named : nat_eq page p ≡ is_named (page_of change) p
+    named = ap (λ o. is_named o p) (sym names)
 
-    by : (b : Bool) → nat_eq (changed_page change) p ≡ b
+    by : (b : Bool) → nat_eq page p ≡ b
         → images_on root (set others at new) p ≡ changed (images_on root others p) (cond b (Some change) None) stamp
     by true same =
-        let is : p ≡ at + 1025 = grind (arith, nat_tests, named) in
+        let is : p ≡ at + 1025 = grind (arith, nat_tests) in
         let after_it : images_on root (set others at new) p ≡ Some new = indexed root (set others at new) at p new is (own_set others at image new there) in
         let before_it : images_on root others p ≡ Some image = indexed root others at p image is there in
         after_it ∙ sym (ap (λ i. changed i (Some change) stamp) before_it ∙ made)
-    by false other = untouched root others at p new (λ e. absurd (grind (arith, nat_tests, named, e)))
+    by false other = untouched root others at p new (λ e. absurd (grind (arith, nat_tests, e)))

@@ -21,6 +21,7 @@ use Rattle.store_model.specs.LogFacts.{IsLogOf}
 use Rattle.store_model.specs.PageState.{PageStoreState, frontier_of, is_live, next_of, start}
 use Rattle.store_model.specs.PageReads.{read_at}
 use Rattle.store_model.specs.PageStep.{Effect, heard, in_turn, stepped, ticked}
+pub use Rattle.page_model.specs.Lists.{Among}
 
 -- ---- runs
 
@@ -75,11 +76,6 @@ pub record IsTakenTo (s : PageStoreState) (writer : ℕ) (groups : List Group) :
   pub frontier : (e : RosterEntry) → e.writer.0 ≡ writer → frontier_of s e ≡ last_stamp e.start.0 groups
 
 -- ---- all groups of all writers
-
--- x is one of them.
-abbrev pub Among : {X : Type 0} → X → List X → Type 0
-Among x [] = ⊥
-Among x (y ∷ ys) = (x ≡ y) ⊎ Among x ys
 
 -- A group is the one of its number in its writer's list.
 abbrev pub IsIn : (ℕ → List Group) → Group → Type 0

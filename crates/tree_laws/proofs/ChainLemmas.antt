@@ -20,7 +20,7 @@ use Rattle.tree_laws.proofs.ThereLemmas.{IsThere}
 
 pub in_all : {A : Type 0} (P : A → Type 0) (xs : List A) (x : A) → AllByRecursion P xs → IsIn x xs → P x
 in_all P [] x all h = absurd h
-in_all P (y ∷ ys) x all h = elim h [ inl q ↦ subst P q all.0 | inr q ↦ in_all P ys x all.1 q ]
+in_all P (y ∷ ys) x all h = elim h [ inl q ↦ subst P (sym q) all.0 | inr q ↦ in_all P ys x all.1 q ]
 
 pub in_parts : {A : Type 0} (xs ys : List A) (x : A) → IsIn x (xs ++ ys) → IsIn x xs ⊎ IsIn x ys
 in_parts [] ys x h = inr h
@@ -48,7 +48,7 @@ led_by key places led place f among holds =
     elim (in_parts f.before (led ∷ f.after) place (subst P f.is among)) [
       | inl a ↦ (let no_end = in_all (λ (p : Place). is_below p.high key ≡ false) f.before place f.ended a in let yes_end = w.1 in cc)
       | inr b ↦ elim b [
-        | inl q ↦ q
+        | inl q ↦ sym q
         | inr q ↦ (let no_start = in_all (λ (p : Place). is_from p.low key ≡ false) f.after place f.begun q in let yes_start = w.0 in cc)
       ]
     ]

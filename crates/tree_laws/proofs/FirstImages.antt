@@ -15,6 +15,7 @@ use Rattle.page_model.specs.Tree.{level_of, is_of, children, there, one_below, l
 use Rattle.page_model.specs.Sound.{IsSound}
 use Rattle.page_model.specs.Tiling.{Has, Tiles, HasRow, IsMap, rows_of}
 use Rattle.tree_laws.specs.Claims.{first_images}
+use Rattle.tree_laws.proofs.FenceLemmas.{both}
 use Rattle.tree_laws.proofs.ThereLemmas.{root_to}
 
 abbrev empty_leaf : ℕ → Body
@@ -73,7 +74,7 @@ module _ (table : ℕ) (least : 1 ≤ table) (most : table ≤ 1024) where
     own = λ p i has. (only_root table p i has).own;
   }
 
-  no_row : (row : Row) → HasRow first_images table row → ⊥
+  pub no_row : (row : Row) → HasRow first_images table row → ⊥
   no_row row r =
       let c = subst (λ (b : Body). Contains (rows_of b) row) (only_root table r.page r.image r.has).body r.contains in
       let lt = c.1 in
@@ -84,3 +85,21 @@ module _ (table : ℕ) (least : 1 ≤ table) (most : table ≤ 1024) where
     each = λ key row g. (let n = get-empty {X = Row} (slice_cmp nat_cmp) key in absurd (cc (n, g)));
     all = λ row r. absurd (no_row row r);
   }
+
+range_by : (p : ℕ) (b : Bool) (t : ℕ) → (nat_le 1 p && nat_le p 1024) ≡ b → is_of t (cond b (empty_leaf p) Blank) ≡ true → (1 ≤ t) × (t ≤ 1024)
+range_by p true t e of =
+    let at : p ≡ t = (leaf_by t p true of).0 in
+    let a : nat_le 1 p ≡ true = (both (nat_le 1 p) (nat_le p 1024) e).0 in
+    let b : nat_le p 1024 ≡ true = (both (nat_le 1 p) (nat_le p 1024) e).1 in
+    (grind (arith, nat_tests), grind (arith, nat_tests))
+range_by p false t e of = cc
+
+-- at first there are no pages of other tables
+pub first_range : (p t : ℕ) (i : Image) → first_images p ≡ Some i → is_of t i.body ≡ true → (1 ≤ t) × (t ≤ 1024)
+first_range p t i h of = range_by p (nat_le 1 p && nat_le p 1024) t refl (ap (λ (x : Image). is_of t x.body) e ∙ of)
+  where
+    one : (x : Image) → Some x ≡ Some i → x ≡ i
+    one x h = cc
+
+    e : initial (record { 0 = p }) ≡ i
+    e = one (initial (record { 0 = p })) h

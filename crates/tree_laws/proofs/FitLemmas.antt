@@ -21,7 +21,8 @@ use Rattle.tree_laws.proofs.FenceLemmas.{strictly_within}
 use Rattle.tree_laws.proofs.PlaceLemmas.{Grown, grown}
 use Rattle.tree_laws.proofs.SetLemmas.{all_added, ascend_added}
 use Rattle.tree_laws.proofs.ThereLemmas.{of_is, one_image, blank_not_of}
-use Rattle.tree_laws.proofs.GroupLemmas.{first_changed, second_changed, third_changed, none_changed, one_changed, one_unchanged, formatted_is, set_is, Added, added_is, separator_limited}
+use Rattle.tree_laws.proofs.GroupLemmas.{first_changed, second_changed, third_changed, none_changed, nothing_changed, one_changed, one_unchanged, formatted_is, set_is, Added, added_is, separator_limited}
+use Rattle.tree_laws.proofs.OtherTables.{still_tiles}
 use Rattle.tree_laws.proofs.PageSplit.{made, Changed, Facts, split_tiles, split_keeps_row, split_adds_no_row}
 use Rattle.tree_laws.proofs.RootSplit.{RootFacts, root_tiles, root_keeps_row, root_adds_no_row}
 use Rattle.tree_laws.proofs.RowPut.{PutFacts, put_tiles, put_there, put_keeps_row, put_adds_no_other, put_is_alone}
@@ -39,7 +40,7 @@ put_facts images stamp group table row leaf tiles s =
     let done : row_set_in leaf.body (table_of leaf.body) row ≡ Some (Leaf table s.low s.high (row_set s.rows row)) =
     ap (λ (b : Body). row_set_in b (table_of b) row) s.body ∙ set_is table s.low s.high s.rows row s.within s.fits in
     let at : after images (r ∷ []) stamp leaf.page.0 ≡ Some (made leaf (Leaf table s.low s.high (row_set s.rows row)) stamp) =
-    one_changed images stamp leaf.page.0 r refl ∙ ap (λ o. changed o (Some r) stamp) s.before.present ∙ ap (stamped leaf stamp) done in
+    one_changed images stamp leaf.page.0 r refl refl ∙ ap (λ o. changed o (Some r) stamp) s.before.present ∙ ap (stamped leaf stamp) done in
     record {
       tiles = tiles;
       leaf = record { held = s.before.present; of = of };
@@ -48,7 +49,7 @@ put_facts images stamp group table row leaf tiles s =
       fits = s.fits;
       sound = s.sound;
       new = ap (λ g. after images g stamp leaf.page.0) s.is ∙ at;
-      others = λ x away. ap (λ g. after images g stamp x) s.is ∙ one_unchanged images stamp x r (turned away);
+      others = λ x away. ap (λ g. after images g stamp x) s.is ∙ one_unchanged images stamp x r refl (turned away);
     }
 
 -- ---- a split of a page
@@ -145,13 +146,13 @@ module _ (images : Images) (stamp : ℕ) (group : List Record) (table : ℕ) (pa
 
   pub split_change : Changed images (after images group stamp) page.page.0 fresh.0 parent.page.0 (made page h.left stamp) (made z h.right stamp) (made parent s.new stamp)
   split_change = record {
-    at_page = ap (λ g. after images g stamp page.page.0) s.is ∙ first_changed images stamp cut_record format_record add_record page.page.0 refl
+    at_page = ap (λ g. after images g stamp page.page.0) s.is ∙ first_changed images stamp cut_record format_record add_record refl refl refl page.page.0 refl
         ∙ ap (λ o. changed o (Some cut_record) stamp) s.before.present ∙ ap (stamped page stamp) s.cut;
-    at_fresh = ap (λ g. after images g stamp fresh.0) s.is ∙ second_changed images stamp cut_record format_record add_record fresh.0 refl page_not_fresh
+    at_fresh = ap (λ g. after images g stamp fresh.0) s.is ∙ second_changed images stamp cut_record format_record add_record refl refl refl fresh.0 refl page_not_fresh
         ∙ ap (λ o. changed o (Some format_record) stamp) s.blank ∙ ap (stamped z stamp) (formatted_is table h.right right_of);
-    at_parent = ap (λ g. after images g stamp parent.page.0) s.is ∙ third_changed images stamp cut_record format_record add_record parent.page.0 refl page_not_parent (turned parent_not_fresh)
+    at_parent = ap (λ g. after images g stamp parent.page.0) s.is ∙ third_changed images stamp cut_record format_record add_record refl refl refl parent.page.0 refl page_not_parent (turned parent_not_fresh)
         ∙ ap (λ o. changed o (Some add_record) stamp) s.before_parent.present ∙ ap (stamped parent stamp) s.added;
-    others = λ x a b c. ap (λ g. after images g stamp x) s.is ∙ none_changed images stamp cut_record format_record add_record x (turned a) (turned b) (turned c);
+    others = λ x a b c. ap (λ g. after images g stamp x) s.is ∙ none_changed images stamp cut_record format_record add_record refl refl refl x (turned a) (turned b) (turned c);
   }
 
 -- ---- a split of a root
@@ -234,13 +235,13 @@ module _ (images : Images) (stamp : ℕ) (group : List Record) (table : ℕ) (pa
 
   pub root_change : Changed images (after images group stamp) left.0 right.0 table (made (blank_page left) h.left stamp) (made (blank_page right) h.right stamp) (made page over stamp)
   root_change = record {
-    at_page = ap (λ g. after images g stamp left.0) s.is ∙ second_changed images stamp over_record left_record right_record left.0 refl (λ e. not_left (sym e ∙ s.is_root))
+    at_page = ap (λ g. after images g stamp left.0) s.is ∙ second_changed images stamp over_record left_record right_record refl refl refl left.0 refl (λ e. not_left (sym e ∙ s.is_root))
         ∙ ap (λ o. changed o (Some left_record) stamp) s.blank_left ∙ ap (stamped (blank_page left) stamp) (formatted_is table h.left root_left_of);
-    at_fresh = ap (λ g. after images g stamp right.0) s.is ∙ third_changed images stamp over_record left_record right_record right.0 refl (λ e. not_right (sym e ∙ s.is_root)) s.differ
+    at_fresh = ap (λ g. after images g stamp right.0) s.is ∙ third_changed images stamp over_record left_record right_record refl refl refl right.0 refl (λ e. not_right (sym e ∙ s.is_root)) s.differ
         ∙ ap (λ o. changed o (Some right_record) stamp) s.blank_right ∙ ap (stamped (blank_page right) stamp) (formatted_is table h.right root_right_of);
-    at_parent = ap (λ g. after images g stamp table) s.is ∙ first_changed images stamp over_record left_record right_record table s.is_root
+    at_parent = ap (λ g. after images g stamp table) s.is ∙ first_changed images stamp over_record left_record right_record refl refl refl table s.is_root
         ∙ ap (λ o. changed o (Some over_record) stamp) root_present;
-    others = λ x a b c. ap (λ g. after images g stamp x) s.is ∙ none_changed images stamp over_record left_record right_record x (λ e. c (sym e ∙ s.is_root)) (turned a) (turned b);
+    others = λ x a b c. ap (λ g. after images g stamp x) s.is ∙ none_changed images stamp over_record left_record right_record refl refl refl x (λ e. c (sym e ∙ s.is_root)) (turned a) (turned b);
   }
 
 -- ---- any group
@@ -254,9 +255,12 @@ fits_tiles images stamp group table tiles fits =
             split_tiles images (after images group stamp) table one.0.page.0 one.3.0 one.1.page.0 stamp one.0 one.1 (blank_page one.3) one.2 s.new (child_for one.2.separator s.low s.high s.first s.entries)
             (grows images stamp group table one.0 one.1 one.2 one.3 tiles s).before (grows images stamp group table one.0 one.1 one.2 one.3 tiles s).after
             (split_facts images stamp group table one.0 one.1 one.2 one.3 tiles s) (split_change images stamp group table one.0 one.1 one.2 one.3 tiles s))
-        | inr top ↦ (let s = top.4 in
-            root_tiles images (after images group stamp) table top.2.0 top.3.0 stamp top.0 (blank_page top.2) (blank_page top.3) top.1 (root_over top.0.body top.1 top.2 top.3)
-            (root_facts images stamp group table top.0 top.1 top.2 top.3 tiles s) (root_change images stamp group table top.0 top.1 top.2 top.3 tiles s))
+        | inr rest ↦ elim rest [
+          | inl top ↦ (let s = top.4 in
+              root_tiles images (after images group stamp) table top.2.0 top.3.0 stamp top.0 (blank_page top.2) (blank_page top.3) top.1 (root_over top.0.body top.1 top.2 top.3)
+              (root_facts images stamp group table top.0 top.1 top.2 top.3 tiles s) (root_change images stamp group table top.0 top.1 top.2 top.3 tiles s))
+          | inr none ↦ still_tiles images (after images group stamp) table (λ x. inl (nothing_changed images stamp x group none)) tiles
+        ]
       ]
     ]
 

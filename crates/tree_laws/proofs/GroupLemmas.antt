@@ -1,6 +1,7 @@
 -- What a group of records makes of the images.
 use Rattle.std.proofs.Common.{◌≡◌, ◌≢◌, ℕ, ◌≤◌, ◌<◌, Bool, true, false, ◌&&◌, cond, nat_eq, nat_lt, nat_le, List, [], ◌∷◌, length, Option, Some, None, refl, sym, ap, ◌∙◌, subst, arith}
 use Rattle.std.proofs.lemmas.Bool.Decides.{nat_tests}
+use Rattle.std.specs.List.{AllByRecursion}
 use Rattle.tm_data.specs.declared.transaction.Page.{Page}
 use Rattle.tm_data.specs.declared.row.Row.{Row}
 use Rattle.tm_data.specs.declared.image.Child.{Child}
@@ -9,11 +10,11 @@ use Rattle.tm_data.specs.declared.image.Body.TheVariants.{Blank, Leaf, Inner}
 use Rattle.tm_data.specs.declared.log.Record.{Record}
 use Rattle.tm_base.specs.Sizes.{size_with, fence_size}
 use Rattle.key_fences.specs.Fences.{is_within}
-use Rattle.page_model.specs.Effects.{row_set, row_set_in, suiting, fitting, formatted, child_added, with_entries, entry_added}
+use Rattle.page_model.specs.Effects.{row_set, row_set_in, suiting, fitting, formatted, child_added, with_entries, entry_added, page_of}
 use Rattle.page_model.specs.Tree.{Images, is_of, low_of}
 use Rattle.page_model.specs.Splits.{changed_page, placed}
 use Rattle.page_model.specs.Sound.{IsSound}
-use Rattle.page_model.specs.Tiling.{record_on, changed, after}
+use Rattle.page_model.specs.Tiling.{is_named, record_on, changed, after, IsOnNoPage}
 
 eq_itself : (n : ℕ) → nat_eq n n ≡ true
 eq_itself n = grind (arith, nat_tests)
@@ -29,56 +30,79 @@ swap a b x false q A B R e f lt = refl
 less_is : (a b : ℕ) → nat_lt a b ≡ true → a < b
 less_is a b h = grind (arith, nat_tests)
 
-on_by : (x : ℕ) (r s : Record) (rs : List Record) (b : Bool) → nat_lt (changed_page s) (changed_page r) ≡ b → record_on x (placed r rs) ≡ cond (nat_eq (changed_page r) x) (Some r) (record_on x rs)
-    → record_on x (cond b (s ∷ placed r rs) (r ∷ s ∷ rs)) ≡ cond (nat_eq (changed_page r) x) (Some r) (record_on x (s ∷ rs))
-on_by x r s rs true e rest =
-    ap (λ o. cond (nat_eq (changed_page s) x) (Some s) o) rest
-    ∙ swap (changed_page s) (changed_page r) x (nat_eq (changed_page s) x) (nat_eq (changed_page r) x) (Some s) (Some r) (record_on x rs) refl refl (less_is (changed_page s) (changed_page r) e)
-on_by x r s rs false e rest = refl
+-- the record names the page that it is placed by
+abbrev pub Names : Record → Type 0
+Names r = page_of r ≡ Some (changed_page r)
 
-on_placed : (x : ℕ) (r : Record) (rs : List Record) → record_on x (placed r rs) ≡ cond (nat_eq (changed_page r) x) (Some r) (record_on x rs)
-on_placed x r [] = refl
-on_placed x r (s ∷ rs) = on_by x r s rs (nat_lt (changed_page s) (changed_page r)) refl (on_placed x r rs)
+named_is : (r : Record) (x : ℕ) → Names r → is_named (page_of r) x ≡ nat_eq (changed_page r) x
+named_is r x n = ap (λ o. is_named o x) n
 
-on_three : (x : ℕ) (r s t : Record) → record_on x (placed r (placed s (t ∷ []))) ≡ cond (nat_eq (changed_page r) x) (Some r) (cond (nat_eq (changed_page s) x) (Some s) (cond (nat_eq (changed_page t) x) (Some t) None))
-on_three x r s t = on_placed x r (placed s (t ∷ [])) ∙ ap (λ o. cond (nat_eq (changed_page r) x) (Some r) o) (on_placed x s (t ∷ []))
+pub named_here : (r : Record) (x : ℕ) → Names r → changed_page r ≡ x → is_named (page_of r) x ≡ true
+named_here r x n e = named_is r x n ∙ ap (nat_eq (changed_page r)) (sym e) ∙ eq_itself (changed_page r)
 
-module _ (images : Images) (stamp : ℕ) (r s t : Record) where
+named_away : (r : Record) (x : ℕ) → Names r → changed_page r ≢ x → is_named (page_of r) x ≡ false
+named_away r x n away = named_is r x n ∙ eq_not (changed_page r) x away
+
+-- the record, if it names the page, before another's
+abbrev pub if_named : ℕ → Record → Option Record → Option Record
+if_named x r o = cond (is_named (page_of r) x) (Some r) o
+
+on_by : (x : ℕ) (r s : Record) (rs : List Record) (b : Bool) → Names r → Names s → nat_lt (changed_page s) (changed_page r) ≡ b → record_on x (placed r rs) ≡ if_named x r (record_on x rs)
+    → record_on x (cond b (s ∷ placed r rs) (r ∷ s ∷ rs)) ≡ if_named x r (record_on x (s ∷ rs))
+on_by x r s rs true nr ns e rest =
+    ap (if_named x s) rest
+    ∙ swap (changed_page s) (changed_page r) x (is_named (page_of s) x) (is_named (page_of r) x) (Some s) (Some r) (record_on x rs) (sym (named_is s x ns)) (sym (named_is r x nr)) (less_is (changed_page s) (changed_page r) e)
+on_by x r s rs false nr ns e rest = refl
+
+pub on_placed : (x : ℕ) (r : Record) (rs : List Record) → Names r → AllByRecursion Names rs → record_on x (placed r rs) ≡ if_named x r (record_on x rs)
+on_placed x r [] nr all = refl
+on_placed x r (s ∷ rs) nr all = on_by x r s rs (nat_lt (changed_page s) (changed_page r)) nr all.0 refl (on_placed x r rs nr all.1)
+
+all_placed : (r : Record) (rs : List Record) (b : Bool) (s : Record) → Names r → Names s → AllByRecursion Names rs → AllByRecursion Names (placed r rs) → AllByRecursion Names (cond b (s ∷ placed r rs) (r ∷ s ∷ rs))
+all_placed r rs true s nr ns all p = (ns, p)
+all_placed r rs false s nr ns all p = (nr, (ns, all))
+
+pub placed_names : (r : Record) (rs : List Record) → Names r → AllByRecursion Names rs → AllByRecursion Names (placed r rs)
+placed_names r [] nr all = (nr, tt)
+placed_names r (s ∷ rs) nr all = all_placed r rs (nat_lt (changed_page s) (changed_page r)) s nr all.0 all.1 (placed_names r rs nr all.1)
+
+module _ (images : Images) (stamp : ℕ) (r s t : Record) (nr : Names r) (ns : Names s) (nt : Names t) where
   abbrev group : List Record
   group = placed r (placed s (t ∷ []))
+
+  pub on_three : (x : ℕ) → record_on x group ≡ if_named x r (if_named x s (if_named x t None))
+  on_three x = on_placed x r (placed s (t ∷ [])) nr (placed_names s (t ∷ []) ns (nt, tt)) ∙ ap (if_named x r) (on_placed x s (t ∷ []) ns (nt, tt))
 
   by : (x : ℕ) (o : Option Record) → record_on x group ≡ o → after images group stamp x ≡ changed (images x) o stamp
   by x o e = ap (λ o. changed (images x) o stamp) e
 
   pub first_changed : (x : ℕ) → changed_page r ≡ x → after images group stamp x ≡ changed (images x) (Some r) stamp
-  first_changed x e =
-      let a : nat_eq (changed_page r) x ≡ true = ap (nat_eq (changed_page r)) (sym e) ∙ eq_itself (changed_page r) in
-      by x (Some r) (on_three x r s t ∙ ap (λ b. cond b (Some r) (cond (nat_eq (changed_page s) x) (Some s) (cond (nat_eq (changed_page t) x) (Some t) None))) a)
+  first_changed x e = by x (Some r) (on_three x ∙ ap (λ b. cond b (Some r) (if_named x s (if_named x t None))) (named_here r x nr e))
 
   pub second_changed : (x : ℕ) → changed_page s ≡ x → changed_page r ≢ x → after images group stamp x ≡ changed (images x) (Some s) stamp
-  second_changed x e nr =
-      let a : nat_eq (changed_page s) x ≡ true = ap (nat_eq (changed_page s)) (sym e) ∙ eq_itself (changed_page s) in
-      by x (Some s) (on_three x r s t ∙ ap (λ b. cond b (Some r) (cond (nat_eq (changed_page s) x) (Some s) (cond (nat_eq (changed_page t) x) (Some t) None))) (eq_not (changed_page r) x nr)
-      ∙ ap (λ b. cond b (Some s) (cond (nat_eq (changed_page t) x) (Some t) None)) a)
+  second_changed x e away_r =
+      by x (Some s) (on_three x ∙ ap (λ b. cond b (Some r) (if_named x s (if_named x t None))) (named_away r x nr away_r)
+      ∙ ap (λ b. cond b (Some s) (if_named x t None)) (named_here s x ns e))
 
   pub third_changed : (x : ℕ) → changed_page t ≡ x → changed_page r ≢ x → changed_page s ≢ x → after images group stamp x ≡ changed (images x) (Some t) stamp
-  third_changed x e nr ns =
-      let a : nat_eq (changed_page t) x ≡ true = ap (nat_eq (changed_page t)) (sym e) ∙ eq_itself (changed_page t) in
-      by x (Some t) (on_three x r s t ∙ ap (λ b. cond b (Some r) (cond (nat_eq (changed_page s) x) (Some s) (cond (nat_eq (changed_page t) x) (Some t) None))) (eq_not (changed_page r) x nr)
-      ∙ ap (λ b. cond b (Some s) (cond (nat_eq (changed_page t) x) (Some t) None)) (eq_not (changed_page s) x ns) ∙ ap (λ b. cond b (Some t) None) a)
+  third_changed x e away_r away_s =
+      by x (Some t) (on_three x ∙ ap (λ b. cond b (Some r) (if_named x s (if_named x t None))) (named_away r x nr away_r)
+      ∙ ap (λ b. cond b (Some s) (if_named x t None)) (named_away s x ns away_s) ∙ ap (λ b. cond b (Some t) None) (named_here t x nt e))
 
   pub none_changed : (x : ℕ) → changed_page r ≢ x → changed_page s ≢ x → changed_page t ≢ x → after images group stamp x ≡ images x
-  none_changed x nr ns nt =
-      by x None (on_three x r s t ∙ ap (λ b. cond b (Some r) (cond (nat_eq (changed_page s) x) (Some s) (cond (nat_eq (changed_page t) x) (Some t) None))) (eq_not (changed_page r) x nr)
-      ∙ ap (λ b. cond b (Some s) (cond (nat_eq (changed_page t) x) (Some t) None)) (eq_not (changed_page s) x ns) ∙ ap (λ b. cond b (Some t) None) (eq_not (changed_page t) x nt))
+  none_changed x away_r away_s away_t =
+      by x None (on_three x ∙ ap (λ b. cond b (Some r) (if_named x s (if_named x t None))) (named_away r x nr away_r)
+      ∙ ap (λ b. cond b (Some s) (if_named x t None)) (named_away s x ns away_s) ∙ ap (λ b. cond b (Some t) None) (named_away t x nt away_t))
 
-pub one_changed : (images : Images) (stamp x : ℕ) (r : Record) → changed_page r ≡ x → after images (r ∷ []) stamp x ≡ changed (images x) (Some r) stamp
-one_changed images stamp x r e =
-    let a : nat_eq (changed_page r) x ≡ true = ap (nat_eq (changed_page r)) (sym e) ∙ eq_itself (changed_page r) in
-    ap (λ b. changed (images x) (cond b (Some r) None) stamp) a
+pub one_changed : (images : Images) (stamp x : ℕ) (r : Record) → Names r → changed_page r ≡ x → after images (r ∷ []) stamp x ≡ changed (images x) (Some r) stamp
+one_changed images stamp x r n e = ap (λ b. changed (images x) (cond b (Some r) None) stamp) (named_here r x n e)
 
-pub one_unchanged : (images : Images) (stamp x : ℕ) (r : Record) → changed_page r ≢ x → after images (r ∷ []) stamp x ≡ images x
-one_unchanged images stamp x r n = ap (λ b. changed (images x) (cond b (Some r) None) stamp) (eq_not (changed_page r) x n)
+pub one_unchanged : (images : Images) (stamp x : ℕ) (r : Record) → Names r → changed_page r ≢ x → after images (r ∷ []) stamp x ≡ images x
+one_unchanged images stamp x r n away = ap (λ b. changed (images x) (cond b (Some r) None) stamp) (named_away r x n away)
+
+-- a group on no page changes none
+pub nothing_changed : (images : Images) (stamp x : ℕ) (group : List Record) → IsOnNoPage group → after images group stamp x ≡ images x
+nothing_changed images stamp x g s = ap (λ g. changed (images x) (record_on x g) stamp) s.is ∙ ap (λ o. changed (images x) (cond (is_named o x) (Some s.change) None) stamp) s.names
 
 -- ---- what the records do
 

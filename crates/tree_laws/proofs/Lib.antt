@@ -30,4 +30,7 @@ pub mod ReachGroups
 pub mod ReachLeaves
 pub mod ReachLaw
 pub mod ReachAlone
+pub mod SomeImages
+pub mod NamedPages
+pub mod LogLaws
 pub mod FirstImages

@@ -1,7 +1,8 @@
 -- What holds of each item of a list, and of an item that it contains.
-use Rattle.std.proofs.Common.{◌≡◌, ℕ, zero, suc, ◌<◌, List, [], ◌∷◌, ◌++◌, length, get_or, subst, arith, inl, inr, ◌⊎◌}
+use Rattle.std.proofs.Common.{◌≡◌, ℕ, zero, suc, ◌<◌, List, [], ◌∷◌, ◌++◌, length, get_or, sym, subst, arith, inl, inr, ◌⊎◌}
 use Rattle.std.specs.List.{AllByRecursion, Contains}
 use Rattle.page_model.proofs.KeyLemmas.{all_at}
+pub use Rattle.page_model.specs.Lists.{Among as IsIn}
 
 pub all_join : {A : Type 0} (P : A → Type 0) (xs ys : List A) → AllByRecursion P xs → AllByRecursion P ys → AllByRecursion P (xs ++ ys)
 all_join P [] ys h k = k
@@ -26,14 +27,9 @@ all_both P Q (x ∷ xs) h k = ((h.0, k.0), all_both P Q xs h.1 k.1)
 pub of_contained : {A : Type 0} (P : A → Type 0) (xs : List A) (x : A) → AllByRecursion P xs → Contains xs x → P x
 of_contained P xs x all c = subst P c.2 (all_at P xs c.0 x all c.1)
 
--- an item of a list, by its place
-abbrev pub IsIn : {A : Type 0} → A → List A → Type 0
-IsIn x [] = ⊥
-IsIn x (y ∷ ys) = (y ≡ x) ⊎ IsIn x ys
-
 in_at : {A : Type 0} (xs : List A) (x : A) (k : ℕ) → k < length xs → get_or xs k x ≡ x → IsIn x xs
 in_at [] x k lt e = absurd (omega arith)
-in_at (y ∷ ys) x zero lt e = inl e
+in_at (y ∷ ys) x zero lt e = inl (sym e)
 in_at (y ∷ ys) x (suc k) lt e = inr (in_at ys x k (omega arith) e)
 
 pub in_from : {A : Type 0} (xs : List A) (x : A) → Contains xs x → IsIn x xs
@@ -41,7 +37,7 @@ in_from xs x c = in_at xs x c.0 c.1 c.2
 
 pub in_to : {A : Type 0} (xs : List A) (x : A) → IsIn x xs → Contains xs x
 in_to [] x h = absurd h
-in_to (y ∷ ys) x h = elim h [ inl e ↦ (0, omega arith, e) | inr k ↦ (let c = in_to ys x k in (suc c.0, omega (arith, c.1), c.2)) ]
+in_to (y ∷ ys) x h = elim h [ inl e ↦ (0, omega arith, sym e) | inr k ↦ (let c = in_to ys x k in (suc c.0, omega (arith, c.1), c.2)) ]
 
 pub in_front : {A : Type 0} (xs ys : List A) (x : A) → IsIn x xs → IsIn x (xs ++ ys)
 in_front [] ys x h = absurd h

@@ -17,7 +17,7 @@ use Rattle.page_model.specs.Tiling.{Has, Tiles, changed, after, after_all, blank
 use Rattle.tree_laws.specs.Claims.{SameRows}
 use Rattle.tree_laws.proofs.ListLemmas.{all_map}
 use Rattle.tree_laws.proofs.ThereLemmas.{there_from, there_to, root_from, root_to, of_is, one_number}
-use Rattle.tree_laws.proofs.GroupLemmas.{first_changed, second_changed, third_changed, none_changed, one_changed, one_unchanged, formatted_is, set_is, added_is}
+use Rattle.tree_laws.proofs.GroupLemmas.{Names, nothing_changed, first_changed, second_changed, third_changed, none_changed, one_changed, one_unchanged, formatted_is, set_is, added_is}
 use Rattle.tree_laws.proofs.PageSplit.{made}
 
 not_of : (table other : ℕ) (body : Body) → other ≢ table → is_of table body ≡ true → is_of other body ≡ false
@@ -39,6 +39,7 @@ Stays images images' other x = (images' x ≡ images x) ⊎ (Foreign other (imag
 
 -- what a record changes is of another table, before and after
 record Swaps (images : Images) (stamp other : ℕ) (change : Record) : Type 0 where
+  pub names : Names change
   pub old : Image
   pub new : Image
   pub was : images (changed_page change) ≡ Some old
@@ -59,8 +60,8 @@ swapped images stamp other x group change s e is =
 one_stays : (images : Images) (stamp other : ℕ) (r : Record) → Swaps images stamp other r → (x : ℕ) → Stays images (after images (r ∷ []) stamp) other x
 one_stays images stamp other r a x =
     elim (one_number (changed_page r) x) [
-      | inl e ↦ swapped images stamp other x (r ∷ []) r a e (one_changed images stamp x r e)
-      | inr n ↦ inl (one_unchanged images stamp x r n)
+      | inl e ↦ swapped images stamp other x (r ∷ []) r a e (one_changed images stamp x r a.names e)
+      | inr n ↦ inl (one_unchanged images stamp x r a.names n)
     ]
 
 three_stay : (images : Images) (stamp other : ℕ) (r s t : Record) → Swaps images stamp other r → Swaps images stamp other s → Swaps images stamp other t
@@ -68,12 +69,12 @@ three_stay : (images : Images) (stamp other : ℕ) (r s t : Record) → Swaps im
 three_stay images stamp other r s t a b c x =
     let group = placed r (placed s (t ∷ [])) in
     elim (one_number (changed_page r) x) [
-      | inl e ↦ swapped images stamp other x group r a e (first_changed images stamp r s t x e)
+      | inl e ↦ swapped images stamp other x group r a e (first_changed images stamp r s t a.names b.names c.names x e)
       | inr nr ↦ elim (one_number (changed_page s) x) [
-        | inl e ↦ swapped images stamp other x group s b e (second_changed images stamp r s t x e nr)
+        | inl e ↦ swapped images stamp other x group s b e (second_changed images stamp r s t a.names b.names c.names x e nr)
         | inr ns ↦ elim (one_number (changed_page t) x) [
-          | inl e ↦ swapped images stamp other x group t c e (third_changed images stamp r s t x e nr ns)
-          | inr nt ↦ inl (none_changed images stamp r s t x nr ns nt)
+          | inl e ↦ swapped images stamp other x group t c e (third_changed images stamp r s t a.names b.names c.names x e nr ns)
+          | inr nt ↦ inl (none_changed images stamp r s t a.names b.names c.names x nr ns nt)
         ]
       ]
     ]
@@ -87,6 +88,7 @@ put_stays images stamp group table other row leaf differ s =
     let new = Leaf table s.low s.high (row_set s.rows row) in
     let done : row_set_in leaf.body (table_of leaf.body) row ≡ Some new = ap (λ (b : Body). row_set_in b (table_of b) row) s.body ∙ set_is table s.low s.high s.rows row s.within s.fits in
     let swaps : Swaps images stamp other r = record {
+      names = refl;
       old = leaf;
       new = made leaf new stamp;
       was = s.before.present;
@@ -100,6 +102,7 @@ put_stays images stamp group table other row leaf differ s =
 formats : (images : Images) (stamp table other : ℕ) (page : Page) (new : Body) → other ≢ table → images page.0 ≡ Some (blank_page page) → is_of table new ≡ true
     → Swaps images stamp other (Format page (record { 0 = 0 }) new)
 formats images stamp table other page new differ blank of = record {
+  names = refl;
   old = blank_page page;
   new = made (blank_page page) new stamp;
   was = blank;
@@ -136,6 +139,7 @@ module _ (images : Images) (stamp : ℕ) (group : List Record) (table other : �
 
   cuts : Swaps images stamp other cut_record
   cuts = record {
+    names = refl;
     old = page;
     new = made page h.left stamp;
     was = s.before.present;
@@ -146,6 +150,7 @@ module _ (images : Images) (stamp : ℕ) (group : List Record) (table other : �
 
   adds : Swaps images stamp other add_record
   adds = record {
+    names = refl;
     old = parent;
     new = made parent s.new stamp;
     was = s.before_parent.present;
@@ -178,6 +183,7 @@ module _ (images : Images) (stamp : ℕ) (group : List Record) (table other : �
 
   covers : Swaps images stamp other over_record
   covers = record {
+    names = refl;
     old = page;
     new = made page over stamp;
     was = s.before.present;
@@ -193,12 +199,15 @@ module _ (images : Images) (stamp : ℕ) (group : List Record) (table other : �
       (formats images stamp table other left h.left differ s.blank_left root_left_of) (formats images stamp table other right h.right differ s.blank_right root_right_of))
 
 pub fits_stays : (images : Images) (stamp : ℕ) (group : List Record) (table other : ℕ) → other ≢ table → Fits images stamp group table → (x : ℕ) → Stays images (after images group stamp) other x
-fits_stays images stamp group table other differ fits =
+fits_stays images stamp group table other differ fits x =
     elim fits [
-      | inl put ↦ put_stays images stamp group table other put.0 put.1 differ put.2
+      | inl put ↦ put_stays images stamp group table other put.0 put.1 differ put.2 x
       | inr split ↦ elim split [
-        | inl one ↦ split_stays images stamp group table other one.0 one.1 one.2 one.3 differ one.4
-        | inr top ↦ root_stays images stamp group table other top.0 top.1 top.2 top.3 differ top.4
+        | inl one ↦ split_stays images stamp group table other one.0 one.1 one.2 one.3 differ one.4 x
+        | inr rest ↦ elim rest [
+          | inl top ↦ root_stays images stamp group table other top.0 top.1 top.2 top.3 differ top.4 x
+          | inr none ↦ inl (nothing_changed images stamp x group none)
+        ]
       ]
     ]
 

@@ -1,5 +1,5 @@
 -- The groups of a plan fit, each after the one before.
-use Rattle.std.proofs.Common.{◌≡◌, ◌≢◌, ℕ, ◌+◌, ◌-◌, ◌≤◌, ◌<◌, Bool, true, false, not, cond, nat_le, nat_lt, List, [], ◌∷◌, ◌++◌, length, reverse, Option, Some, None, Result, Ok, Err, refl, sym, ap, ◌∙◌, subst, arith, inr}
+use Rattle.std.proofs.Common.{◌≡◌, ◌≢◌, ℕ, ◌+◌, ◌-◌, ◌≤◌, ◌<◌, Bool, true, false, not, cond, nat_le, nat_lt, List, [], ◌∷◌, ◌++◌, length, reverse, Option, Some, None, Result, Ok, Err, refl, sym, ap, ◌∙◌, subst, arith, inl, inr}
 use Rattle.std.proofs.lemmas.Bool.Decides.{nat_tests}
 use Rattle.std.proofs.lemmas.List.{reverse-reverse}
 use Rattle.std.specs.List.{AllByRecursion}
@@ -82,7 +82,7 @@ module _ (images : Images) (table stamp : ℕ) (row : Row) (i : Image) (is : Lis
   T' = after images group stamp
 
   fits : Fits images stamp group table
-  fits = inr (inr (i, h, l, r, splits))
+  fits = inr (inr (inl (i, h, l, r, splits)))
 
   new_tiles : Tiles T' table
   new_tiles = fits_tiles images stamp group table g.tiles fits

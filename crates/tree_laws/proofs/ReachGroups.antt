@@ -1,13 +1,11 @@
 -- Groups that fit a part of a set of images fit the set; and another table stays as it was, said of what is reached.
-use Rattle.std.proofs.Common.{◌≡◌, ◌≢◌, ℕ, ◌+◌, List, [], ◌∷◌, Option, Some, None, refl, ◌∙◌, subst, inl, inr, ◌⊎◌}
-use Rattle.tm_data.specs.declared.transaction.Page.{Page}
-use Rattle.tm_data.specs.declared.row.Row.{Row}
+use Rattle.std.proofs.Common.{◌≡◌, ◌≢◌, ℕ, ◌+◌, List, [], ◌∷◌, Option, Some, None, refl, sym, ◌∙◌, subst, inl, inr, ◌⊎◌}
 use Rattle.tm_data.specs.declared.image.Image.{Image}
 use Rattle.tm_data.specs.declared.log.Record.{Record}
 use Rattle.page_model.specs.Tree.{Images}
-use Rattle.page_model.specs.Splits.{Halves}
-use Rattle.page_model.specs.Tiling.{Tiles, IsBefore, PutsRow, Splits, SplitsRoot, Fits, FitInTurn, after, after_all, blank_page}
+use Rattle.page_model.specs.Tiling.{Tiles, Fits, FitInTurn, after, after_all}
 use Rattle.tree_laws.specs.Reach.{TilesFromRoot, SameRowsFromRoot, without_strays}
+use Rattle.tree_laws.proofs.NamedPages.{fits_find, fits_alike}
 use Rattle.tree_laws.proofs.OtherTables.{Foreign, Stays, fits_stays, still_tiles, still_rows}
 use Rattle.tree_laws.proofs.ReachStrays.{strays_left, tiles_left, rows_left}
 use Rattle.tree_laws.proofs.ReachParts.{IsPart, in_whole, tiles_from_root, rows_from_root}
@@ -15,73 +13,15 @@ use Rattle.tree_laws.proofs.ReachPlan.{part_after}
 
 -- ---- what fits a part fits the whole
 
-module _ (whole part : Images) (is_part : IsPart part whole) where
-  before_too : (image : Image) (stamp : ℕ) → IsBefore part image stamp → IsBefore whole image stamp
-  before_too image stamp b = record { present = in_whole whole part is_part image.page.0 image b.present; older = b.older }
-
-  put_too : (stamp : ℕ) (group : List Record) (table : ℕ) (row : Row) (leaf : Image) → PutsRow part stamp group table row leaf → PutsRow whole stamp group table row leaf
-  put_too stamp group table row leaf s = record {
-    low = s.low;
-    high = s.high;
-    rows = s.rows;
-    before = before_too leaf stamp s.before;
-    body = s.body;
-    within = s.within;
-    fits = s.fits;
-    sound = s.sound;
-    is = s.is;
-  }
-
-  split_too : (stamp : ℕ) (group : List Record) (table : ℕ) (page parent : Image) (h : Halves) (fresh : Page) → Splits part stamp group table page parent h fresh → Splits whole stamp group table page parent h fresh
-  split_too stamp group table page parent h fresh s = record {
-    level = s.level;
-    low = s.low;
-    high = s.high;
-    first = s.first;
-    entries = s.entries;
-    new = s.new;
-    before = before_too page stamp s.before;
-    before_parent = before_too parent stamp s.before_parent;
-    blank = in_whole whole part is_part fresh.0 (blank_page fresh) s.blank;
-    of = s.of;
-    above = s.above;
-    level_is = s.level_is;
-    leads = s.leads;
-    parted = s.parted;
-    cut = s.cut;
-    added = s.added;
-    is = s.is;
-  }
-
-  root_too : (stamp : ℕ) (group : List Record) (table : ℕ) (page : Image) (h : Halves) (l r : Page) → SplitsRoot part stamp group table page h l r → SplitsRoot whole stamp group table page h l r
-  root_too stamp group table page h l r s = record {
-    before = before_too page stamp s.before;
-    blank_left = in_whole whole part is_part l.0 (blank_page l) s.blank_left;
-    blank_right = in_whole whole part is_part r.0 (blank_page r) s.blank_right;
-    differ = s.differ;
-    of = s.of;
-    is_root = s.is_root;
-    low = s.low;
-    high = s.high;
-    lower = s.lower;
-    parted = s.parted;
-    is = s.is;
-  }
-
-  fits_too : (stamp : ℕ) (group : List Record) (table : ℕ) → Fits part stamp group table → Fits whole stamp group table
-  fits_too stamp group table fits =
-      elim fits [
-        | inl put ↦ inl (put.0, put.1, put_too stamp group table put.0 put.1 put.2)
-        | inr split ↦ elim split [
-          | inl one ↦ inr (inl (one.0, one.1, one.2, one.3, split_too stamp group table one.0 one.1 one.2 one.3 one.4))
-          | inr top ↦ inr (inr (top.0, top.1, top.2, top.3, root_too stamp group table top.0 top.1 top.2 top.3 top.4))
-        ]
-      ]
+fits_too : (whole part : Images) (stamp : ℕ) (group : List Record) (table : ℕ) → IsPart part whole → Fits part stamp group table → Fits whole stamp group table
+fits_too whole part stamp group table is_part fits =
+    fits_alike part whole stamp group table
+    (λ p change on. (let f = fits_find part stamp group table fits p change on in in_whole whole part is_part p f.old f.was ∙ sym f.was)) fits
 
 pub all_fit_too : (whole part : Images) (stamp : ℕ) (groups : List (List Record)) (table : ℕ) → IsPart part whole → FitInTurn part stamp groups table → FitInTurn whole stamp groups table
 all_fit_too whole part stamp [] table is_part fit = tt
 all_fit_too whole part stamp (group ∷ groups) table is_part fit = (
-  fits_too whole part is_part stamp group table fit.0,
+  fits_too whole part stamp group table is_part fit.0,
   all_fit_too (after whole group stamp) (after part group stamp) (stamp + 1) groups table (part_after whole part group stamp is_part) fit.1,
 )
 

@@ -66,14 +66,14 @@ step_to images table [] parent body child among e h = absurd among
 step_to images table (p ∷ ps) parent body child among e h =
     elim among [
       | inl q ↦ in_front (children_of (there images table p)) (next_places images table ps) child
-          (to_children (there images table p) body child (ap (there images table) q ∙ e) h)
+          (to_children (there images table p) body child (ap (there images table) (sym q) ∙ e) h)
       | inr k ↦ in_back (children_of (there images table p)) (next_places images table ps) child (step_to images table ps parent body child k e h)
     ]
 
 -- ---- what is reached
 
 pub only_root : (table : ℕ) (place : Place) → IsIn place (root table ∷ []) → root table ≡ place
-only_root table place h = elim h [ inl e ↦ e | inr k ↦ absurd k ]
+only_root table place h = elim h [ inl e ↦ sym e | inr k ↦ absurd k ]
 
 pub reached_by : (images : Images) (table n : ℕ) (place : Place) → IsIn place (places_after images table n) → IsReached images table place
 reached_by images table n place h = (n, in_to (places_after images table n) place h)
@@ -128,7 +128,7 @@ pub among_to : (ps : List Place) (place : Place) → IsIn place ps → is_among 
 among_to [] place h = absurd h
 among_to (p ∷ ps) place h =
     elim h [
-      | inl e ↦ (let q : nat_eq p.page.0 place.page.0 ≡ true = ap (λ (x : Place). nat_eq p.page.0 x.page.0) (sym e) ∙ number_is p.page.0 in ap (λ b. b || is_among place.page.0 ps) q)
+      | inl e ↦ (let q : nat_eq p.page.0 place.page.0 ≡ true = ap (λ (x : Place). nat_eq p.page.0 x.page.0) e ∙ number_is p.page.0 in ap (λ b. b || is_among place.page.0 ps) q)
       | inr k ↦ or_right (nat_eq p.page.0 place.page.0) (is_among place.page.0 ps) (among_to ps place k)
     ]
 

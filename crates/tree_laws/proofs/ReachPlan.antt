@@ -23,14 +23,14 @@ use Rattle.tree_laws.proofs.ReachParts.{IsPart, in_whole, there_too, top_part, t
 -- ---- a path's images are those of the part
 
 module _ (whole part : Images) (table : ℕ) (key : List ℕ) (is_part : IsPart part whole) where
-  with_same : (page : Page) (i : Image) (rest : List Page) → part page.0 ≡ Some i → images_on whole rest ≡ images_on part rest → images_on whole (page ∷ rest) ≡ images_on part (page ∷ rest)
+  pub with_same : (page : Page) (i : Image) (rest : List Page) → part page.0 ≡ Some i → images_on whole rest ≡ images_on part rest → images_on whole (page ∷ rest) ≡ images_on part (page ∷ rest)
   with_same page i rest at same =
       ap (λ o. with_image o (images_on whole rest)) (in_whole whole part is_part page.0 i at ∙ sym at) ∙ ap (with_image (part page.0)) same
 
   none_on : (pages : List Page) → [] ≡ pages → images_on whole pages ≡ images_on part pages
   none_on pages e = ap (images_on whole) (sym e) ∙ ap (images_on part) e
 
-  images_below : (n : ℕ) (body : Body) (pages : List Page) → path_below part table key n body ≡ Ok pages → images_on whole pages ≡ images_on part pages
+  pub images_below : (n : ℕ) (body : Body) (pages : List Page) → path_below part table key n body ≡ Ok pages → images_on whole pages ≡ images_on part pages
   images_below zero Blank pages found = none_on pages (cc)
   images_below zero (Leaf t low high rows) pages found = none_on pages (cc)
   images_below zero (Inner t level low high first entries) pages found = cc

@@ -49,7 +49,7 @@ kept_by r rs set row x true b e f differ h rest = elim h [ inl q ↦ inl q | inr
 kept_by r rs set row x false true e f differ h rest = inr h
 kept_by r rs set row x false false e f differ h rest =
     let same : r.key ≡ row.key = one_key r.key row.key e f in
-    elim h [ inl q ↦ absurd (differ (ap (λ (y : Row). y.key) (sym q) ∙ same)) | inr q ↦ inr q ]
+    elim h [ inl q ↦ absurd (differ (ap (λ (y : Row). y.key) q ∙ same)) | inr q ↦ inr q ]
 
 pub set_keeps : (rows : List Row) (row x : Row) → x.key ≢ row.key → IsIn x rows → IsIn x (row_set rows row)
 set_keeps [] row x differ h = absurd h
@@ -57,16 +57,16 @@ set_keeps (r ∷ rs) row x differ h = kept_by r rs (row_set rs row) row x (key_l
 
 new_by : (r : Row) (rs set : List Row) (row x : Row) (a b : Bool) → x.key ≢ row.key → (IsIn x set → IsIn x rs) → IsIn x (cond a (r ∷ set) (cond b (row ∷ r ∷ rs) (row ∷ rs))) → IsIn x (r ∷ rs)
 new_by r rs set row x true b differ rest h = elim h [ inl q ↦ inl q | inr q ↦ inr (rest q) ]
-new_by r rs set row x false true differ rest h = elim h [ inl q ↦ absurd (differ (ap (λ (y : Row). y.key) (sym q))) | inr q ↦ q ]
-new_by r rs set row x false false differ rest h = elim h [ inl q ↦ absurd (differ (ap (λ (y : Row). y.key) (sym q))) | inr q ↦ inr q ]
+new_by r rs set row x false true differ rest h = elim h [ inl q ↦ absurd (differ (ap (λ (y : Row). y.key) q)) | inr q ↦ q ]
+new_by r rs set row x false false differ rest h = elim h [ inl q ↦ absurd (differ (ap (λ (y : Row). y.key) q)) | inr q ↦ inr q ]
 
 pub set_adds_none : (rows : List Row) (row x : Row) → x.key ≢ row.key → IsIn x (row_set rows row) → IsIn x rows
-set_adds_none [] row x differ h = elim h [ inl q ↦ absurd (differ (ap (λ (y : Row). y.key) (sym q))) | inr q ↦ absurd q ]
+set_adds_none [] row x differ h = elim h [ inl q ↦ absurd (differ (ap (λ (y : Row). y.key) q)) | inr q ↦ absurd q ]
 set_adds_none (r ∷ rs) row x differ h = new_by r rs (row_set rs row) row x (key_less r.key row.key) (key_less row.key r.key) differ (set_adds_none rs row x differ) h
 
 below_in : (P : Row → Type 0) (rs : List Row) (x : Row) → AllByRecursion P rs → IsIn x rs → P x
 below_in P [] x all h = absurd h
-below_in P (r ∷ rs) x all h = elim h [ inl q ↦ subst P q all.0 | inr q ↦ below_in P rs x all.1 q ]
+below_in P (r ∷ rs) x all h = elim h [ inl q ↦ subst P (sym q) all.0 | inr q ↦ below_in P rs x all.1 q ]
 
 pub in_all : (P : Row → Type 0) (rs : List Row) (x : Row) → AllByRecursion P rs → IsIn x rs → P x
 in_all = below_in
@@ -77,11 +77,11 @@ one_row [] x y up h k e = absurd h
 one_row (r ∷ rs) x y up h k e =
     elim h [
       | inl q ↦ elim k [
-        | inl w ↦ sym q ∙ w
-        | inr w ↦ (let l = below_in (Above r.key) rs y up.0 w in let n = not_less_itself r.key in let s : y.key ≡ r.key = sym e ∙ ap (λ (z : Row). z.key) (sym q) in let t : key_less r.key r.key ≡ true = ap (key_less r.key) (sym s) ∙ l in cc)
+        | inl w ↦ q ∙ sym w
+        | inr w ↦ (let l = below_in (Above r.key) rs y up.0 w in let n = not_less_itself r.key in let s : y.key ≡ r.key = sym e ∙ ap (λ (z : Row). z.key) q in let t : key_less r.key r.key ≡ true = ap (key_less r.key) (sym s) ∙ l in cc)
       ]
       | inr q ↦ elim k [
-        | inl w ↦ (let l = below_in (Above r.key) rs x up.0 q in let n = not_less_itself r.key in let s : x.key ≡ r.key = e ∙ ap (λ (z : Row). z.key) (sym w) in let t : key_less r.key r.key ≡ true = ap (key_less r.key) (sym s) ∙ l in cc)
+        | inl w ↦ (let l = below_in (Above r.key) rs x up.0 q in let n = not_less_itself r.key in let s : x.key ≡ r.key = e ∙ ap (λ (z : Row). z.key) w in let t : key_less r.key r.key ≡ true = ap (key_less r.key) (sym s) ∙ l in cc)
         | inr w ↦ one_row rs x y up.1 q w e
       ]
     ]

@@ -123,7 +123,7 @@ map_only [] key row g = let n = get-empty {X = Row} (slice_cmp nat_cmp) key in a
 map_only (r ∷ rs) key row g =
     elim (one_key_or key r.key) [
       | inl e ↦ (let h : Some r ≡ Some row = sym (get_same (map_of rs) r.key r) ∙ ap (get (insert (map_of rs) r.key r)) (sym e) ∙ g in let q : r ≡ row = cc in
-          (inl q, ap (λ (x : Row). x.key) (sym q) ∙ sym e))
+          (inl (sym q), ap (λ (x : Row). x.key) (sym q) ∙ sym e))
       | inr d ↦ (let k = map_only rs key row (sym (get_other (map_of rs) r.key key r d) ∙ g) in (inr k.0, k.1))
     ]
 
@@ -138,7 +138,7 @@ map_all (r ∷ rs) row one h =
       | inl e ↦ (let q : r ≡ row = sym (one row r h (inl refl) e) in
           ap (get (insert (map_of rs) r.key r)) e ∙ get_same (map_of rs) r.key r ∙ ap (λ (x : Row). Some x) q)
       | inr d ↦ elim h [
-        | inl q ↦ absurd (d (ap (λ (x : Row). x.key) (sym q)))
+        | inl q ↦ absurd (d (ap (λ (x : Row). x.key) q))
         | inr k ↦ get_other (map_of rs) r.key row.key r d ∙ map_all rs row (λ x y i j. one x y (inr i) (inr j)) k
       ]
     ]

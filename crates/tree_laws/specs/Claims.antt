@@ -4,13 +4,13 @@ use Rattle.std.specs.List.{AllByRecursion}
 use Rattle.tm_data.specs.declared.transaction.Page.{Page}
 use Rattle.tm_data.specs.declared.row.Row.{Row}
 use Rattle.tm_data.specs.declared.image.Image.{Image}
-use Rattle.page_model.specs.Effects.{initial}
 use Rattle.page_model.specs.Tree.{Images, level_of, may_hold}
 use Rattle.page_model.specs.Tiling.{Has, HasRow, rows_of, blank_page}
+pub use Rattle.page_model.specs.Tiling.{first_images}
 
--- The first version of each page.
-abbrev pub first_images : Images
-first_images page = Some (initial (record { 0 = page }))
+-- Some of a set's images, as a master has them in memory: each that the part has the whole has, and the same one.
+abbrev pub IsPartOf : Images → Images → Type 0
+IsPartOf part whole = (p : ℕ) (i : Image) → part p ≡ Some i → whole p ≡ Some i
 
 -- The table has the same rows.
 abbrev pub SameRows : Images → Images → ℕ → Type 0

@@ -8,9 +8,10 @@ use Rattle.tm_data.specs.declared.transaction.Page.{Page}
 use Rattle.tm_data.specs.declared.row.Row.{Row}
 use Rattle.tm_data.specs.declared.image.Body.{Body}
 use Rattle.tm_data.specs.declared.image.Image.{Image}
+use Rattle.tm_data.specs.declared.log.Record.{Record}
 use Rattle.page_model.specs.Tree.{Images, Place, level_of, is_of, may_hold, children, there, one_below, root}
 use Rattle.page_model.specs.Sound.{IsSound}
-use Rattle.page_model.specs.Tiling.{rows_of}
+use Rattle.page_model.specs.Tiling.{rows_of, FitInTurn, after_all}
 
 -- ---- what is reached
 
@@ -63,6 +64,15 @@ pub record SetsRowFromRoot (old new : Images) (table : ℕ) (row : Row) : Type 0
 -- The two sets have the same rows of the table.
 abbrev pub SameRowsFromRoot : Images → Images → ℕ → Type 0
 SameRowsFromRoot old new table = (row : Row) → HasRowFromRoot old table row ↔ HasRowFromRoot new table row
+
+-- The groups of a put: they fit, each the images after the ones before it; after them what is reached tiles the table,
+-- with the row set and every other one as before; and a table beside it that was tiled is, with the same rows.
+pub record PutsFromRoot (images : Images) (first : ℕ) (groups : List (List Record)) (table : ℕ) (row : Row) : Type 0 where
+  pub fit : FitInTurn images first groups table
+  pub tiles : TilesFromRoot (after_all images groups first) table
+  pub sets : SetsRowFromRoot images (after_all images groups first) table row
+  pub others : (other : ℕ) → other ≢ table → TilesFromRoot images other
+      → TilesFromRoot (after_all images groups first) other × SameRowsFromRoot images (after_all images groups first) other
 
 -- The table is a finite map: the rows that are reached by their keys.
 pub record IsMapFromRoot (images : Images) (table : ℕ) (m : FinMap (slice_cmp nat_cmp) Row) : Type 0 where

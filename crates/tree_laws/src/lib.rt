@@ -10,6 +10,8 @@
 //! a plan keeps it whatever stray pages there are.
 #![tactic(auto)]
 
+pub mod logs;
+
 ghost use Rattle.std.specs.Prelude.{◌≡◌, ◌≢◌, ◌↔◌, ◌≤◌, ◌<◌, ℕ, List, Ok, length};
 ghost use Rattle.std.specs.List.{AllByRecursion};
 ghost use Rattle.std.specs.Ordering.{nat_cmp};
@@ -23,8 +25,8 @@ ghost use Rattle.page_model.specs.Tree.{Images, Place, path_of};
 ghost use Rattle.page_model.specs.Splits.{Halves, images_on, plan_of};
 ghost use Rattle.page_model.specs.Sound.{IsSoundRow};
 ghost use Rattle.page_model.specs.Tiling.{Tiles, IsMap, Fits, FitInTurn, PutsRow, Splits, SplitsRoot, HasRow, after, after_all};
-ghost use Rattle.tree_laws.specs.Claims.{first_images, SameRows, SetsRow, AreFresh, LeadsToItsRow};
-ghost use Rattle.tree_laws.specs.Reach.{IsReached, TilesFromRoot, HasRowFromRoot, SetsRowFromRoot, SameRowsFromRoot, IsMapFromRoot, AreLeaves, LeadsFromRoot, without_strays};
+ghost use Rattle.tree_laws.specs.Claims.{first_images, IsPartOf, SameRows, SetsRow, AreFresh, LeadsToItsRow};
+ghost use Rattle.tree_laws.specs.Reach.{IsReached, TilesFromRoot, HasRowFromRoot, SetsRowFromRoot, PutsFromRoot, SameRowsFromRoot, IsMapFromRoot, AreLeaves, LeadsFromRoot, without_strays};
 
 /// Tiling is local: where a set of images tiles a table and a group fits the images that it names, the
 /// images after the group tile the table.
@@ -158,6 +160,25 @@ pub fn a_plan_from_the_root()
         → plan_of images path row fresh first ≡ Ok groups
         → FitInTurn images first groups table × TilesFromRoot (after_all images groups first) table
         × SetsRowFromRoot images (after_all images groups first) table row }
+{}
+
+/// A path that is found among some of a set's images is the set's: what is found to be there is there. It
+/// refuses a path that goes on, or ends, where an image is missing.
+pub fn a_path_found_is_the_sets()
+    ensures { (images part : Images) (table : ℕ) (key : List ℕ) (path : List Page)
+        → IsPartOf part images → path_of part table key ≡ Ok path → path_of images table key ≡ Ok path }
+{}
+
+/// A plan that is made of some of a set's images alone, along the path that is found among them, is right
+/// for the set, where what is reached from the table's root tiles the table, the fresh pages are blank and
+/// all different, and the stamps are above those of the path. It refuses a plan that looks at a page beside
+/// the path.
+pub fn a_plan_of_some_images()
+    ensures { (images part : Images) (table first : ℕ) (row : Row) (path fresh : List Page) (groups : List (List Record))
+        → IsPartOf part images → TilesFromRoot images table → path_of part table row.key ≡ Ok path
+        → IsSoundRow row → AreFresh images fresh
+        → AllByRecursion (λ (i : Image). i.stamp.0 < first) (images_on part path)
+        → plan_of part path row fresh first ≡ Ok groups → PutsFromRoot images first groups table row }
 {}
 
 /// After a plan a table whose rows that are reached are a finite map is that map with the row set.

@@ -1,0 +1,17 @@
+pub mod ListLemmas
+pub mod BoundLemmas
+pub mod CutSteps
+pub mod CutRuns
+pub mod ClosedLemmas
+pub mod CountLemmas
+pub mod BlockLemmas
+pub mod WholeLemmas
+pub mod RowLemmas
+pub mod KeptLists
+pub mod CloseClean
+pub mod CloseLemmas
+pub mod CutRows
+pub mod CoverLemmas
+pub mod CleanLemmas
+pub mod VectorLemmas
+pub mod CloseEvents

@@ -1,0 +1,4 @@
+pub mod History
+pub mod Bounds
+pub mod Images
+pub mod Blocks

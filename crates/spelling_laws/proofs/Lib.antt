@@ -1,0 +1,4 @@
+pub mod SoundLemmas
+pub mod KeepLemmas
+pub mod PlanContent
+pub mod GroupSpelling
