@@ -98,5 +98,5 @@ get_at key own w path leaf = get_row w leaf key own (row_at leaf key)
 abbrev pub get : Work → ℕ → ℕ → List ℕ → Answer
 get w session table key =
     in_session w session (λ own.
-      let t = txn_numbered w own.number in
-      if_active w t own.progress (if_named w table key (on_path w table key (get_at key t))))
+    let t = txn_numbered w own.number in
+    if_active w t own.progress (if_named w table key (on_path w table key (get_at key t))))

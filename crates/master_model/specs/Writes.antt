@@ -179,5 +179,5 @@ if_value w (Some value) goes_on = if_short w value (nat_le (length value) 512) g
 abbrev pub put : Work → ℕ → ℕ → List ℕ → Option (List ℕ) → Answer
 put w session table key value =
     in_session w session (λ own.
-      if_active w (txn_numbered w own.number) own.progress
-      (if_named w table key (if_value w value (on_path w table key (put_at session own table key value)))))
+    if_active w (txn_numbered w own.number) own.progress
+    (if_named w table key (if_value w value (on_path w table key (put_at session own table key value)))))

@@ -159,8 +159,9 @@ fn has_row(rows: &RowList, key: &Key) -> bool
     let KeyPlace::At(at) = rows.place(key.as_slice()) else {
         return false;
     };
-    let Some(row) = rows.get(at) else {
+    let rows = rows.as_slice();
+    if at >= rows.len() {
         return false;
-    };
-    row.key.as_slice() == key.as_slice()
+    }
+    rows[at].key.as_slice() == key.as_slice()
 }

@@ -9,7 +9,8 @@ use Rattle.page_model.specs.Tree.{Images, path_of}
 use Rattle.page_model.specs.Splits.{images_on}
 use Rattle.page_model.specs.Sound.{IsSoundRow}
 use Rattle.page_model.specs.Tiling.{Tiles, FitInTurn, after_all}
-use Rattle.tree_laws.specs.Claims.{AreFresh, SetsRow}
+use Rattle.tree_laws.specs.Claims.{AreFresh, SetsRow, IsPartOf}
+use Rattle.tree_laws.specs.Reach.{TilesFromRoot, PutsFromRoot}
 
 -- The groups fit, each the images after the ones before it, and after the last one the images tile the table, the row
 -- is there, and every other row is as before.
@@ -26,3 +27,13 @@ Fitting (Ok groups) known path row fresh first =
     (images : Images) (table : ℕ) → images_on images path ≡ images_on known path → Tiles images table → path_of images table row.key ≡ Ok path
     → IsSoundRow row → AreFresh images fresh → AllByRecursion (λ (i : Image). i.stamp.0 < first) (images_on images path)
     → PutsInTurn images first groups table row
+
+-- So do they in what is reached from the root, in every set of images that has all that the given ones have, where the
+-- path is the one that is found among the given ones: the tiling is said of what is reached alone, and tables beside it
+-- stay tiled, with the same rows.
+abbrev pub FittingFromRoot : {E : Type 0} → Result (List (List Record)) E → Images → List Page → Row → List Page → ℕ → Type 0
+FittingFromRoot (Err why) known path row fresh first = Unit {0}
+FittingFromRoot (Ok groups) known path row fresh first =
+    (images : Images) (table : ℕ) → IsPartOf known images → TilesFromRoot images table → path_of known table row.key ≡ Ok path
+    → IsSoundRow row → AreFresh images fresh → AllByRecursion (λ (i : Image). i.stamp.0 < first) (images_on known path)
+    → PutsFromRoot images first groups table row

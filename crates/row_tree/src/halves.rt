@@ -66,14 +66,14 @@ fn right_entries(
         option_map right_in r ≡ option_map right_of (halves (Body.Inner table level low high.now first entries.now))) }
 {
     let count = entries.len() / 2;
-    let all = entries.as_slice();
-    if count == all.len() {
+    let children = entries.as_slice();
+    if count == children.len() {
         return Ok(None);
     }
-    let separator = all[count].key.copy()?;
-    let low = Some(all[count].key.copy()?);
+    let separator = children[count].key.copy()?;
+    let low = Some(children[count].key.copy()?);
     let high = high.copy()?;
-    let first = all[count].page;
+    let first = children[count].page;
     let entries = entries.copy_back(count + 1)?;
     let body = Body::Inner {
         table,

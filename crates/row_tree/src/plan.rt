@@ -3,7 +3,7 @@ ghost use Rattle.std.specs.Prelude.{◌≡◌, ◌<◌, ◌≤◌, ◌+◌, ◌-
 ghost use Rattle.key_fences.specs.Fences.{key_less};
 ghost use Rattle.page_model.specs.Tree.{level_of};
 ghost use Rattle.page_model.specs.Splits.{groups_below, groups_of_root, plan_of, plan_with};
-ghost use Rattle.row_tree.specs.Plans.{Fitting};
+ghost use Rattle.row_tree.specs.Plans.{Fitting, FittingFromRoot};
 ghost use Rattle.row_tree.specs.Inside.{spot_in, images_at, GivesPlan, IsEnough};
 
 use crate::fence::{level_of, table_of};
@@ -209,7 +209,8 @@ fn planned<P: Pages>(
 ///
 /// Where a set of images tiles the table, and `pages` gives the path's images as that set has them, the groups
 /// fit, each the images after the ones before it; after the last one the images tile the table, the row is
-/// there, and every other row is as before.
+/// there, and every other row is as before. The same holds of what is reached from the root alone, where
+/// the path is the one that [`find`](crate::find) gives over `pages` and the set has all images of `pages`.
 ///
 /// Refuses `Height` exactly where a root of level 5 would split, then `Fresh` exactly where fresh pages
 /// are wanting, with their number. Each page that is looked at is looked at once.
@@ -225,6 +226,8 @@ pub fn plan_put<P: Pages>(
         (plan_of (P.images pages.now) path.now row.entry.now fresh.now first.0) }
     ensures fits { first.0 ≤ 2 ^ 63
         → Fitting result (P.images pages.now) path.now row.entry.now fresh.now first.0 }
+    ensures from_root { first.0 ≤ 2 ^ 63
+        → FittingFromRoot result (P.images pages.now) path.now row.entry.now fresh.now first.0 }
 {
     planned(alloc, pages, path, row, fresh, first)
 }
