@@ -21,15 +21,15 @@ fn present_size(rows: &RowList, key: &Key) -> usize
 }
 
 /// Whether a page is full: a leaf in which the row doesn't fit, or an inner page with less room than
-/// one more entry may need.
+/// one more entry may need. The leaf is searched only where the row would not fit beside all others.
 fn is_full(row: &Row, image: &Image) -> bool
     ensures { result ≡ is_full row.entry.now image.now.body }
 {
     match &image.body {
         Body::Blank => false,
         Body::Leaf { rows, .. } => {
-            let present = present_size(rows, &row.key);
-            size(image).saturating_add(row_size(row)) > MAX_IMAGE + present
+            let whole = size(image).saturating_add(row_size(row));
+            whole > MAX_IMAGE && whole > MAX_IMAGE + present_size(rows, &row.key)
         }
         Body::Inner { .. } => room(image) < MAX_ENTRY,
     }

@@ -81,14 +81,14 @@ fn in_order(alloc: Global, a: Record, b: Record, c: Record) -> Mem<RecordList>
 pub(crate) fn row_group(alloc: Global, row: &Row, spot: Spot) -> Mem<RecordList>
     ensures { IfOk result (λ group. group ≡ row_group row.entry.now (spot_in spot)) }
 {
-    let mut records = RecordList::new(alloc);
+    let mut records = Vec::with_capacity(alloc, 1)?;
     records.push(Record::RowSet {
         page: spot.page,
         prev: spot.stamp,
         table: spot.table,
         row: row.copy()?,
     })?;
-    Ok(records)
+    Ok(RecordList::from_vec(records))
 }
 
 /// The group that splits a page under its parent.
