@@ -76,14 +76,6 @@ leaf_full table low high rows new whole total is small sum =
     same_order a b c d false true is_x is_y on back = absurd (grind (arith, nat_tests))
     same_order a b c d false false is_x is_y on back = refl
 
--- A leaf isn't full where the row fits beside all others.
-pub leaf_roomy : (table : ℕ) (low high : Option (List ℕ)) (rows : List Row) (new : Row) (whole total : ℕ) → whole ≡ min (size_with (Leaf table low high rows)) MOST → total ≡ min (whole + row_size new) MOST → total ≤ 8192
-    → nat_lt 8192 (size_with (Leaf table low high (row_set rows new))) ≡ false
-leaf_roomy table low high rows new whole total is sum small =
-    let s = size_set rows new in
-    let le : size_with (Leaf table low high (row_set rows new)) ≤ 8192 = omega (arith, is, sum, small, s) in
-    grind (arith, nat_tests, le)
-
 -- ---- children
 
 -- A child is added where its key is new.

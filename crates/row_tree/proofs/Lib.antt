@@ -3,3 +3,4 @@ pub mod PathLemmas
 pub mod FullLemmas
 pub mod PlanLemmas
 pub mod FittingLemmas
+pub mod RoomLemmas

@@ -3,7 +3,8 @@ use Rattle.std.specs.Prelude.{min, nat_lt}
 use Rattle.std.proofs.lemmas.Bool.Decides.{nat_tests}
 use Rattle.tm_base.specs.Sizes.{MOST, size_with}
 use Rattle.page_model.specs.Splits.{is_full}
-use Rattle.page_model.proofs.PlacedLemmas.{leaf_full, leaf_roomy}
+use Rattle.page_model.proofs.PlacedLemmas.{leaf_full}
+use Rattle.row_tree.proofs.RoomLemmas.{leaf_roomy}
 use Rattle.row_tree.proofs.full.is_full.Goals as goal
 
 pub returns-then-whole-gt-MAX_IMAGE : goal.returns-then-whole-gt-MAX_IMAGE
