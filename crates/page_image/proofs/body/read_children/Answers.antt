@@ -16,9 +16,10 @@ returns-in_err-child c =
 
 pub loop-preserved : goal.loop-preserved
 loop-preserved c =
-    let made = c.in-Ok-push.ensures.ok in
-    (rw (made, c.in_ok-child.ensures.key) (goes_on (child_at c.args.total (option_copied c.args.low) (option_copied c.args.high)) key_of_child c.loop.children (option_copied c.loop.last) c.args.count c.loop.counter c.loop.rest.now c.in_ok-child.child c.in_ok-child.behind.now (children_at c.args.total (option_copied c.args.low) (option_copied c.args.high) None c.args.count c.args.bytes.now) c.loop-test.true c.in_ok-child.ensures.exact c.loop.invariant.0),
-      ap (last_key (λ (x : Child). x.key)) made ∙ last_pushed (λ (x : Child). x.key) c.loop.children c.in_ok-child.child ∙ ap Some (sym c.in_ok-child.ensures.key))
+    let made = c.in-Ok-push.ensures.ok in (
+      rw (made, c.in_ok-child.ensures.key) (goes_on (child_at c.args.total (option_copied c.args.low) (option_copied c.args.high)) key_of_child c.loop.children (option_copied c.loop.last) c.args.count c.loop.counter c.loop.rest.now c.in_ok-child.child c.in_ok-child.behind.now (children_at c.args.total (option_copied c.args.low) (option_copied c.args.high) None c.args.count c.args.bytes.now) c.loop-test.true c.in_ok-child.ensures.exact c.loop.invariant.0),
+      ap (last_key (λ (x : Child). x.key)) made ∙ last_pushed (λ (x : Child). x.key) c.loop.children c.in_ok-child.child ∙ ap Some (sym c.in_ok-child.ensures.key),
+    )
 
 pub returns : goal.returns
 returns c = is_done (child_at c.args.total (option_copied c.args.low) (option_copied c.args.high)) key_of_child c.loop.children (option_copied c.loop.last) c.args.count c.loop.counter c.loop.rest.now (children_at c.args.total (option_copied c.args.low) (option_copied c.args.high) None c.args.count c.args.bytes.now) c.loop-test.false c.loop.invariant.0

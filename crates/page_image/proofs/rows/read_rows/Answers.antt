@@ -16,9 +16,10 @@ returns-in_err-row c =
 
 pub loop-preserved : goal.loop-preserved
 loop-preserved c =
-    let made = c.in-Ok-push.ensures.ok in
-    (rw (made, c.in_ok-row.ensures.key) (goes_on (row_at c.args.total (option_copied c.args.low) (option_copied c.args.high)) key_of_row c.loop.rows (option_copied c.loop.last) c.args.count c.loop.counter c.loop.rest.now c.in_ok-row.row c.in_ok-row.behind.now (rows_at c.args.total (option_copied c.args.low) (option_copied c.args.high) None c.args.count c.args.bytes.now) c.loop-test.true c.in_ok-row.ensures.exact c.loop.invariant.0),
-      ap (last_key (λ (x : Row). x.key)) made ∙ last_pushed (λ (x : Row). x.key) c.loop.rows c.in_ok-row.row ∙ ap Some (sym c.in_ok-row.ensures.key))
+    let made = c.in-Ok-push.ensures.ok in (
+      rw (made, c.in_ok-row.ensures.key) (goes_on (row_at c.args.total (option_copied c.args.low) (option_copied c.args.high)) key_of_row c.loop.rows (option_copied c.loop.last) c.args.count c.loop.counter c.loop.rest.now c.in_ok-row.row c.in_ok-row.behind.now (rows_at c.args.total (option_copied c.args.low) (option_copied c.args.high) None c.args.count c.args.bytes.now) c.loop-test.true c.in_ok-row.ensures.exact c.loop.invariant.0),
+      ap (last_key (λ (x : Row). x.key)) made ∙ last_pushed (λ (x : Row). x.key) c.loop.rows c.in_ok-row.row ∙ ap Some (sym c.in_ok-row.ensures.key),
+    )
 
 pub returns : goal.returns
 returns c = is_done (row_at c.args.total (option_copied c.args.low) (option_copied c.args.high)) key_of_row c.loop.rows (option_copied c.loop.last) c.args.count c.loop.counter c.loop.rest.now (rows_at c.args.total (option_copied c.args.low) (option_copied c.args.high) None c.args.count c.args.bytes.now) c.loop-test.false c.loop.invariant.0
