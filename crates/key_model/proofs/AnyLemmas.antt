@@ -115,10 +115,10 @@ module _ {K X : Type 0} {R : K → K → Ordering} (total : IsTotalOrder R) (exa
 -- ---- sets
 
 module _ {K : Type 0} {R : K → K → Ordering} (total : IsTotalOrder R) (exact : IsAntisymmetric R) where
-  itself : (x : K) → eq_by_cmp R x x ≡ true
+  pub itself : (x : K) → eq_by_cmp R x x ≡ true
   itself x = ap is_eq (tied_itself total x)
 
-  equal : (x y : K) → eq_by_cmp R x y ≡ true → x ≡ y
+  pub equal : (x y : K) → eq_by_cmp R x y ≡ true → x ≡ y
   equal x y h = exact x y ((Equal-is (R x y)).0 h)
 
   pub each_item_fails : (s : sets.FinSet R) (p : K → Bool) → list_any p (sets.items s) ≡ false → (k : K) → p k ≡ true → sets.contains s k ≡ false

@@ -25,7 +25,7 @@ use Rattle.key_model.proofs.ValuedLemmas.{get-with_all}
 
 -- ---- truth values
 
-both_true : (a b : Bool) → a ≡ true → b ≡ true → (a && b) ≡ true
+pub both_true : (a b : Bool) → a ≡ true → b ≡ true → (a && b) ≡ true
 both_true true b h g = g
 both_true false b h g = h
 
@@ -33,14 +33,14 @@ pub first_true : (a b : Bool) → (a && b) ≡ true → a ≡ true
 first_true true b h = refl
 first_true false b h = h
 
-second_true : (a b : Bool) → (a && b) ≡ true → b ≡ true
+pub second_true : (a b : Bool) → (a && b) ≡ true → b ≡ true
 second_true true b h = h
 second_true false b h = absurd (not_both false h refl)
 
-not_true : (a : Bool) → a ≡ false → not a ≡ true
+pub not_true : (a : Bool) → a ≡ false → not a ≡ true
 not_true a h = ap not h
 
-true_not : (a : Bool) → not a ≡ true → a ≡ false
+pub true_not : (a : Bool) → not a ≡ true → a ≡ false
 true_not true h = sym h
 true_not false h = refl
 
@@ -57,10 +57,10 @@ some_false (Some x) h = absurd (not_both true refl h)
 
 -- ---- sameness
 
-writer_is : (a b : Writer) → same_writer a b ≡ true → a ≡ b
+pub writer_is : (a b : Writer) → same_writer a b ≡ true → a ≡ b
 writer_is a b h = λ i. record { 0 = (unsigned_Decides a.0 b.0).0 h i }
 
-writer_same : (a b : Writer) → a ≡ b → same_writer a b ≡ true
+pub writer_same : (a b : Writer) → a ≡ b → same_writer a b ≡ true
 writer_same a b h = (unsigned_Decides a.0 b.0).1 (ap (λ w. w.0) h)
 
 pub txn_is : (a b : Txn) → same_txn a b ≡ true → a ≡ b
@@ -101,10 +101,10 @@ outcome_same false = refl
 
 -- ---- a step that is allowed
 
-gives : (b : Bool) (s new : State) → b ≡ true → new ≡ s → where_allowed b s ≡ Some new
+pub gives : (b : Bool) (s new : State) → b ≡ true → new ≡ s → where_allowed b s ≡ Some new
 gives b s new h e = ap (λ a. where_allowed a s) h ∙ ap Some (sym e)
 
-needs : (b : Bool) (s new : State) → where_allowed b s ≡ Some new → (b ≡ true) × (new ≡ s)
+pub needs : (b : Bool) (s new : State) → where_allowed b s ≡ Some new → (b ≡ true) × (new ≡ s)
 needs true s new h = (refl, sym (some_is s new h))
 needs false s new h = absurd (none_not_some new h)
 
@@ -161,11 +161,11 @@ module _ (m : State) where
   false_dying : (key : RowKey) → has_dying m key ≡ false → NoneDying m key
   false_dying key h u = each_item_fails dying_cmp-total dying_cmp-exact m.dying (λ d. same_row d.row key) h (record { row = key; txn = u }) (row_same key)
 
-  doomed_true : (mine : Option Txn) → IsDoomed m mine → is_doomed m mine ≡ true
+  pub doomed_true : (mine : Option Txn) → IsDoomed m mine → is_doomed m mine ≡ true
   doomed_true None h = absurd h
   doomed_true (Some t) h = both_true _ _ h.0 (none_true _ h.1)
 
-  true_doomed : (mine : Option Txn) → is_doomed m mine ≡ true → IsDoomed m mine
+  pub true_doomed : (mine : Option Txn) → is_doomed m mine ≡ true → IsDoomed m mine
   true_doomed None h = absurd (not_both false h refl)
   true_doomed (Some t) h = (first_true _ _ h, true_none _ (second_true _ _ h))
 
@@ -256,7 +256,7 @@ recovered_from old asked said new h =
     let n = needs (same_writer said asked && sets.contains old.recovered asked) old new h in
     record { same = writer_is said asked (first_true _ _ n.0); recovered = second_true _ _ n.0; unchanged = n.1 }
 
-answers_to : (old : State) (writer : Option Writer) (session : ℕ) (c : Command) (r : Reply) (new : State) → Answers old writer session c r new → after_answer old writer session c r ≡ Some new
+pub answers_to : (old : State) (writer : Option Writer) (session : ℕ) (c : Command) (r : Reply) (new : State) → Answers old writer session c r new → after_answer old writer session c r ≡ Some new
 answers_to old writer session command.Begin (reply.Begun t) new h = begun_to old writer session t new h
 answers_to old writer session (command.Get table key) (reply.Value value) new h = value_to old (open_txn old (txn_in old writer session)) (row_of table key) value new h
 answers_to old writer session (command.Put table key value) reply.Done new h = done_to old (open_txn old (txn_in old writer session)) (row_of table key) (Some value) new h
@@ -272,7 +272,7 @@ answers_to old writer session _ (reply.Aborted t) new h = absurd h
 answers_to old writer session _ (reply.Recovered said) new h = absurd h
 answers_to old writer session _ _ new h = ap Some (sym h)
 
-answers_from : (old : State) (writer : Option Writer) (session : ℕ) (c : Command) (r : Reply) (new : State) → after_answer old writer session c r ≡ Some new → Answers old writer session c r new
+pub answers_from : (old : State) (writer : Option Writer) (session : ℕ) (c : Command) (r : Reply) (new : State) → after_answer old writer session c r ≡ Some new → Answers old writer session c r new
 answers_from old writer session command.Begin (reply.Begun t) new h = begun_from old writer session t new h
 answers_from old writer session (command.Get table key) (reply.Value value) new h = value_from old (open_txn old (txn_in old writer session)) (row_of table key) value new h
 answers_from old writer session (command.Put table key value) reply.Done new h = done_from old (open_txn old (txn_in old writer session)) (row_of table key) (Some value) new h
@@ -288,7 +288,7 @@ answers_from old writer session _ (reply.Aborted t) new h = absurd (none_not_som
 answers_from old writer session _ (reply.Recovered said) new h = absurd (none_not_some new h)
 answers_from old writer session _ _ new h = sym (some_is old new h)
 
-settles_to : (old : State) (t : Txn) (o : Option Open) (committed : Bool) (new : State) → Settles old t o committed new → after_settled old t o committed ≡ Some new
+pub settles_to : (old : State) (t : Txn) (o : Option Open) (committed : Bool) (new : State) → Settles old t o committed new → after_settled old t o committed ≡ Some new
 settles_to old t None committed new h = absurd h
 settles_to old t (Some o) true new h =
     let entered : with_all old.map (fin.entries o.writes) ≡ new.map =
@@ -298,7 +298,7 @@ settles_to old t (Some o) true new h =
     ap (λ map. Some (record (with_settled old t true) { map = map })) entered ∙ ap Some (sym h.settled)
 settles_to old t (Some o) false new h = ap Some (sym h)
 
-settles_from : (old : State) (t : Txn) (o : Option Open) (committed : Bool) (new : State) → after_settled old t o committed ≡ Some new → Settles old t o committed new
+pub settles_from : (old : State) (t : Txn) (o : Option Open) (committed : Bool) (new : State) → after_settled old t o committed ≡ Some new → Settles old t o committed new
 settles_from old t None committed new h = absurd (none_not_some new h)
 settles_from old t (Some o) true new h =
     let is : record (with_settled old t true) { map = with_all old.map (fin.entries o.writes) } ≡ new = some_is _ new h in
@@ -309,50 +309,3 @@ settles_from old t (Some o) true new h =
       settled = sym is ∙ ap (λ map. record (with_settled old t true) { map = map }) (ap (λ s. s.map) is);
     }
 settles_from old t (Some o) false new h = sym (some_is _ new h)
-
--- ---- steps
-
-pub step_to : (old : State) (step : MachineStep) (new : State) → Steps old step new → after old step ≡ Some new
-step_to old (Settle t committed) new h = settles_to old t (fin.get old.opened t) committed new h
-step_to old (Answered writer session asked said) new (inl h) =
-    ap (λ b. answered b old writer session asked said) (doomed_true old (txn_in old writer session) h.doomed) ∙ gives _ old new (not_true _ h.no_end) h.unchanged
-step_to old (Answered writer session asked said) new (inr h) =
-    ap (λ b. answered b old writer session asked said) (true_or_false _ (λ d. h.living (true_doomed old (txn_in old writer session) d)))
-    ∙ answers_to old writer session asked said new h.answered
-
-pub step_from : (old : State) (step : MachineStep) (new : State) → after old step ≡ Some new → Steps old step new
-step_from old (Settle t committed) new h = settles_from old t (fin.get old.opened t) committed new h
-step_from old (Answered writer session asked said) new h = by (is_doomed old (txn_in old writer session)) refl h
-  where
-    by : (b : Bool) → is_doomed old (txn_in old writer session) ≡ b → answered b old writer session asked said ≡ Some new
-        → AnswersDoomed old (txn_in old writer session) said new ⊎ AnswersLiving old writer session asked said new
-    by true d h =
-        let n = needs (not (says_end said)) old new h in
-        inl (record { doomed = true_doomed old (txn_in old writer session) d; no_end = true_not _ n.0; unchanged = n.1 })
-    by false d h =
-        inr (record { living = λ is. not_both _ (doomed_true old (txn_in old writer session) is) d; answered = answers_from old writer session asked said new h })
-
-after_none : (steps : List MachineStep) → after_all None steps ≡ None
-after_none [] = refl
-after_none (step ∷ steps) = refl
-
-pub run_to : (old : State) (steps : List MachineStep) (new : State) → Run old steps new → after_all (Some old) steps ≡ Some new
-run_to old [] new h = ap Some (sym h)
-run_to old (step ∷ steps) new h = ap (λ m. after_all m steps) (step_to old step h.0 h.1) ∙ run_to h.0 steps new h.2
-
-pub run_from : (old : State) (steps : List MachineStep) (new : State) → after_all (Some old) steps ≡ Some new → Run old steps new
-run_from old [] new h = sym (some_is old new h)
-run_from old (step ∷ steps) new h = by (after old step) refl h (λ mid. run_from mid steps new)
-  where
-    by : (m : Option State) → after old step ≡ m → after_all m steps ≡ Some new → ((mid : State) → after_all (Some mid) steps ≡ Some new → Run mid steps new)
-        → (mid : State) × Steps old step mid × Run mid steps new
-    by None is h rest = absurd (none_not_some new (sym (after_none steps) ∙ h))
-    by (Some mid) is h rest = (mid, step_from old step mid is, rest mid h)
-
--- what the running machine tells of a step
-pub took : (old : State) (step : MachineStep) (new : State) (allowed : Bool) → (new, allowed) ≡ told old (after old step) → Took old step allowed new
-took old step new allowed h = subst (λ (p : State × Bool). Took old step p.1 p.0) (sym h) (by (after old step) refl)
-  where
-    by : (m : Option State) → after old step ≡ m → Took old step (told old m).1 (told old m).0
-    by None is = (λ other s. none_not_some other (sym is ∙ step_to old step other s), refl)
-    by (Some mid) is = step_from old step mid is

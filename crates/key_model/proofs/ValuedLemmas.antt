@@ -20,80 +20,25 @@ use Rattle.tm_data.specs.Maps.{entries-empty, entries-from_entries}
 use Rattle.key_model.specs.Inside.{keep, kept, valued, HasPlace, HasPlaces}
 use Rattle.key_model.specs.Steps.{or_mapped}
 use Rattle.key_model.specs.After.{with_written, with_all}
+use Rattle.key_model.proofs.AnyLemmas as any
 use Rattle.key_model.proofs.AnyLemmas.{none_below, first_of_both, second_of_both, true_or_false, not_both, less_not_equal}
-
--- a value, where there is a place that isn't empty
-abbrev pub or_gone : {X : Type 0} → Option (Option X) → Option X
-or_gone None = None
-or_gone (Some place) = place
+use Rattle.key_model.proofs.PlaceLemmas as generic
+use Rattle.key_model.proofs.PlaceLemmas.{or_gone}
 
 abbrev Cells : Type 0
 Cells = FinMap row_cmp (Option (List ℕ))
 
 equal : (x y : RowKey) → eq_by_cmp row_cmp x y ≡ true → x ≡ y
-equal x y h = row_cmp-exact x y ((Equal-is (row_cmp x y)).0 h)
+equal = any.equal row_cmp-total row_cmp-exact
 
 itself : (x : RowKey) → eq_by_cmp row_cmp x x ≡ true
-itself x = ap is_eq (tied_itself row_cmp-total x)
-
-find_kept : (es : List (RowKey × Option (List ℕ))) → T (is_sorted row_cmp es) → (q : RowKey) → find row_cmp q (kept es) ≡ or_gone (find row_cmp q es)
-find_kept [] s q = refl
-find_kept (e ∷ es) s q = by e.1 (eq_by_cmp row_cmp q e.0) refl (find_kept es (second_of_both _ _ s) q)
-  where
-    by : (o : Option (List ℕ)) (b : Bool) → eq_by_cmp row_cmp q e.0 ≡ b → find row_cmp q (kept es) ≡ or_gone (find row_cmp q es)
-        → find row_cmp q (keep e.0 o (kept es)) ≡ or_gone (cond b (Some o) (find row_cmp q es))
-    by None true same rest =
-        rest ∙ ap or_gone (ap (λ k. find row_cmp k es) (equal q e.0 same) ∙ none_below row_cmp-total row_cmp-exact e.0 es (first_of_both _ _ s))
-    by None false same rest = rest
-    by (Some v) true same rest = ap (λ b. cond b (Some v) (find row_cmp q (kept es))) same
-    by (Some v) false same rest = ap (λ b. cond b (Some v) (find row_cmp q (kept es))) same ∙ rest
+itself = any.itself row_cmp-total row_cmp-exact
 
 pub get-valued : (m : Cells) (q : RowKey) → get (valued m) q ≡ or_gone (get m q)
-get-valued m q = get-from_entries row_cmp-total (kept (entries m)) q ∙ find_kept (entries m) (entries_sorted m) q ∙ ap or_gone (sym (get-entries m q))
+get-valued = generic.get-valued row_cmp-total row_cmp-exact
 
-pub valued-empty : valued empty ≡ empty
-valued-empty = ap (λ es. from_entries (kept es)) (entries-empty row_cmp)
-
--- an empty place at a row without a place changes no value
-pub valued-place : (m : Cells) (k : RowKey) → get m k ≡ None → valued (insert m k None) ≡ valued m
-valued-place m k none = same_map row_cmp-total row_cmp-exact _ _ (λ q.
-    get-valued (insert m k None) q ∙ ap or_gone (get-insert row_cmp-total m k None q) ∙ by q (eq_by_cmp row_cmp q k) refl ∙ sym (get-valued m q))
-  where
-    by : (q : RowKey) (b : Bool) → eq_by_cmp row_cmp q k ≡ b → or_gone (cond b (Some None) (get m q)) ≡ or_gone (get m q)
-    by q true same = sym (ap or_gone (ap (get m) (equal q k same) ∙ none))
-    by q false same = refl
-
-out : (b : Bool) (v : List ℕ) (o : Option (Option (List ℕ))) → or_gone (cond b (Some (Some v)) o) ≡ cond b (Some v) (or_gone o)
-out true v o = refl
-out false v o = refl
-
-out_none : (b : Bool) (o : Option (Option (List ℕ))) → or_gone (cond b None o) ≡ cond b None (or_gone o)
-out_none true o = refl
-out_none false o = refl
-
-pub valued-insert : (m : Cells) (k : RowKey) (v : List ℕ) → valued (insert m k (Some v)) ≡ insert (valued m) k v
-valued-insert m k v = same_map row_cmp-total row_cmp-exact _ _ (λ q.
-    get-valued (insert m k (Some v)) q ∙ ap or_gone (get-insert row_cmp-total m k (Some v) q) ∙ out (eq_by_cmp row_cmp q k) v (get m q)
-    ∙ ap (cond (eq_by_cmp row_cmp q k) (Some v)) (sym (get-valued m q)) ∙ sym (get-insert row_cmp-total (valued m) k v q))
-
-pub valued-remove : (m : Cells) (k : RowKey) → valued (remove m k) ≡ remove (valued m) k
-valued-remove m k = same_map row_cmp-total row_cmp-exact _ _ (λ q.
-    get-valued (remove m k) q ∙ ap or_gone (get-remove row_cmp-total m k q) ∙ out_none (eq_by_cmp row_cmp q k) (get m q)
-    ∙ ap (cond (eq_by_cmp row_cmp q k) None) (sym (get-valued m q)) ∙ sym (get-remove row_cmp-total (valued m) k q))
-
--- each place of m is one of n
 abbrev pub HasMore : Cells → Cells → Type 0
 HasMore m n = (q : RowKey) → IsSome (get m q) → IsSome (get n q)
-
-pub more-insert : (m : Cells) (k : RowKey) (o : Option (List ℕ)) → HasMore m (insert m k o)
-more-insert m k o q h = subst IsSome (sym (get-insert row_cmp-total m k o q)) (by (eq_by_cmp row_cmp q k))
-  where
-    by : (b : Bool) → IsSome (cond b (Some o) (get m q))
-    by true = refl
-    by false = h
-
-pub place-insert : (m : Cells) (k : RowKey) (o : Option (List ℕ)) → IsSome (get (insert m k o) k)
-place-insert m k o = subst IsSome (sym (get-insert row_cmp-total m k o k ∙ ap (λ b. cond b (Some o) (get m k)) (itself k))) refl
 
 -- the places are still there after more came
 pub places-more : (m n : Cells) → HasMore m n → (es : List (RowKey × Option (List ℕ))) → HasPlaces m es → HasPlaces n es
@@ -138,27 +83,19 @@ get-with_all map (e ∷ es) s q =
 
 -- ---- the loops over places
 
-pub copied_none : {X : Type 0} (o : Option (Bor X)) → is_none o ≡ true → option_copied o ≡ None
-copied_none None h = refl
-copied_none (Some x) h = absurd (not_both false h refl)
-
 pub reserve_turn : (m next was : Cells) (its rest all : List (RowKey × Option (List ℕ))) (k : RowKey) (o : Option (List ℕ))
     → its ≡ (k, o) ∷ rest → next ≡ insert m k None → get m k ≡ None → valued m ≡ valued was
     → ((n : Cells) → HasMore m n → HasPlaces n its → HasPlaces n all)
     → (valued next ≡ valued was) × ((n : Cells) → HasMore next n → HasPlaces n rest → HasPlaces n all)
 reserve_turn m next was its rest all k o is new none same inv = (
-  ap valued new ∙ valued-place m k none ∙ same,
-  λ n more places. inv n (λ q h. more q (subst (λ x. IsSome (get x q)) (sym new) (more-insert m k None q h)))
-      (subst (HasPlaces n) (sym is) (by n o (more k (subst (λ x. IsSome (get x k)) (sym new) (place-insert m k None))), places)),
+  ap valued new ∙ generic.valued-place row_cmp-total row_cmp-exact m k none ∙ same,
+  λ n more places. inv n (λ q h. more q (subst (λ x. IsSome (get x q)) (sym new) (generic.more-insert row_cmp-total row_cmp-exact m k None q h)))
+      (subst (HasPlaces n) (sym is) (by n o (more k (subst (λ x. IsSome (get x k)) (sym new) (generic.place-insert row_cmp-total row_cmp-exact m k None))), places)),
 )
   where
     by : (n : Cells) (o : Option (List ℕ)) → IsSome (get n k) → HasPlace n k o
     by n None h = tt
     by n (Some v) h = h
-
-pub ok_only : {X E P Q : Type 0} (r : Result X E) → OnOk r P → OnErr r Q → (Q → ⊥) → P
-ok_only (Ok x) p q none = p
-ok_only (Err e) p q none = absurd (none q)
 
 pub place_there : (m : Cells) (its rest : List (RowKey × Option (List ℕ))) (k : RowKey) (o : Option (List ℕ)) → its ≡ (k, o) ∷ rest → HasPlaces m its → is_some o ≡ true → get m k ≡ None → ⊥
 place_there m its rest k None is places some none = not_both false some refl
@@ -172,8 +109,8 @@ pub enter_turn : (m next : Cells) (its rest : List (RowKey × Option (List ℕ))
 enter_turn m next its rest k None target is sorted places same some new = absurd (not_both false some refl)
 enter_turn m next its rest k (Some v) target is sorted places same some new = (
   second_of_both _ _ (subst (λ es. T (is_sorted row_cmp es)) is sorted),
-  subst (λ n. HasPlaces n rest) (sym new) (places-more m (insert m k (Some v)) (more-insert m k (Some v)) rest (subst (HasPlaces m) is places).1),
-  ap (λ n. with_all (valued n) rest) new ∙ ap (λ x. with_all x rest) (valued-insert m k v) ∙ ap (with_all (valued m)) (sym is) ∙ same,
+  subst (λ n. HasPlaces n rest) (sym new) (places-more m (insert m k (Some v)) (generic.more-insert row_cmp-total row_cmp-exact m k (Some v)) rest (subst (HasPlaces m) is places).1),
+  ap (λ n. with_all (valued n) rest) new ∙ ap (λ x. with_all x rest) (generic.valued-insert row_cmp-total row_cmp-exact m k v) ∙ ap (with_all (valued m)) (sym is) ∙ same,
 )
 
 pub leave_turn : (m next : Cells) (its rest : List (RowKey × Option (List ℕ))) (k : RowKey) (o : Option (List ℕ)) (target : FinMap row_cmp (List ℕ))
@@ -184,7 +121,7 @@ leave_turn m next its rest k None target is sorted places same some new =
     let order : T (is_sorted row_cmp ((k, None) ∷ rest)) = subst (λ es. T (is_sorted row_cmp es)) is sorted in (
       second_of_both _ _ order,
       subst (λ n. HasPlaces n rest) (sym new) (places-remove m k rest (first_of_both _ _ order) (subst (HasPlaces m) is places).1),
-      ap (λ n. with_all (valued n) rest) new ∙ ap (λ x. with_all x rest) (valued-remove m k) ∙ ap (with_all (valued m)) (sym is) ∙ same,
+      ap (λ n. with_all (valued n) rest) new ∙ ap (λ x. with_all x rest) (generic.valued-remove row_cmp-total row_cmp-exact m k) ∙ ap (with_all (valued m)) (sym is) ∙ same,
     )
 
 -- ---- the entries of the map

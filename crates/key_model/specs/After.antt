@@ -1,5 +1,5 @@
 -- The steps of the plain machine as a function: what a step makes of a state, or none where it isn't allowed.
-use Rattle.std.specs.Prelude.{ℕ, List, [], ◌∷◌, Bool, true, false, Some, None, ◌&&◌, not, is_some, is_none, nat_eq}
+use Rattle.std.specs.Prelude.{ℕ, List, [], ◌∷◌, Bool, true, false, cond, Some, None, ◌&&◌, not, is_some, is_none, nat_eq}
 use Rattle.std.specs.List.{list_any}
 use Rattle.std.specs.Option.{option_eq}
 use Rattle.std.specs.Cmp.Lexicographic.{pointwise}
@@ -14,10 +14,12 @@ use Rattle.tm_base.specs.declared.command.Command.TheVariants as command
 use Rattle.tm_base.specs.declared.reply.Reply.{Reply}
 use Rattle.tm_base.specs.declared.reply.Reply.TheVariants as reply
 use Rattle.tm_data.specs.Orders.{row_cmp}
+use Rattle.key_model.specs.declared.events.Ended.{Ended}
+use Rattle.key_model.specs.declared.events.PutKey.{PutKey}
 use Rattle.key_model.specs.declared.step.MachineStep.{MachineStep}
-use Rattle.key_model.specs.declared.step.MachineStep.TheVariants.{Answered, Settle}
+use Rattle.key_model.specs.declared.step.MachineStep.TheVariants.{Answered, Settle, Close, Recover}
 use Rattle.key_model.specs.declared.sessions.Session.{Session}
-use Rattle.key_model.specs.State.{Open, DyingRow, State}
+use Rattle.key_model.specs.State.{Open, DyingRow, State, dying_cmp}
 use Rattle.key_model.specs.Steps.{at, row_of, txn_in, OpenTxn, open_txn, seen, says_end, with_begun, with_read, with_write, with_free, with_settled}
 
 -- ---- the tests
@@ -155,10 +157,50 @@ after_settled m t None committed = None
 after_settled m t (Some touched) true = Some (record (with_settled m t true) { map = with_all m.map (fin.entries touched.writes) })
 after_settled m t (Some touched) false = Some (with_settled m t false)
 
+-- An end in a closed log settles its transaction, if that is open.
+abbrev pub settled_if_open : State → Ended → Option State
+settled_if_open m e = after_settled m e.txn (fin.get m.opened e.txn) e.committed
+
+abbrev pub or_same : State → Option State → State
+or_same m None = m
+or_same m (Some new) = new
+
+abbrev pub after_ends : State → List Ended → State
+after_ends m [] = m
+after_ends m (e ∷ es) = after_ends (or_same m (settled_if_open m e)) es
+
+-- The keys that the open transactions of the writer have put are locked.
+abbrev pub is_open_of : State → Writer → Txn → Bool
+is_open_of m writer t = same_writer t.writer writer && is_some (fin.get m.opened t)
+
+abbrev pub locked_row : PutKey → DyingRow
+locked_row p = record { row = row_of p.table p.key; txn = p.txn }
+
+abbrev pub with_locked : sets.FinSet dying_cmp → State → Writer → List PutKey → sets.FinSet dying_cmp
+with_locked dying m writer [] = dying
+with_locked dying m writer (p ∷ ps) = with_locked (cond (is_open_of m writer p.txn) (sets.insert dying (locked_row p)) dying) m writer ps
+
+abbrev pub left : State → Writer → List PutKey → State
+left m writer puts = record m {
+  opened = fin.retain_keys m.opened (λ t. not (same_writer t.writer writer));
+  dying = with_locked m.dying m writer puts;
+  closed = sets.insert m.closed writer;
+}
+
+abbrev pub after_closing : State → Writer → List Ended → List PutKey → Option State
+after_closing m writer ends puts = where_allowed (not (sets.contains m.closed writer)) (left (after_ends m ends) writer puts)
+
+abbrev pub after_recovery : State → Writer → Option State
+after_recovery m writer =
+    where_allowed (sets.contains m.closed writer)
+    (record m { dying = sets.retain m.dying (λ d. not (same_writer d.txn.writer writer)); recovered = sets.insert m.recovered writer })
+
 -- What a step makes of a state, or none where it isn't allowed.
 abbrev pub after : State → MachineStep → Option State
 after m (Answered writer session asked said) = answered (is_doomed m (txn_in m writer session)) m writer session asked said
 after m (Settle t committed) = after_settled m t (fin.get m.opened t) committed
+after m (Close writer ends puts) = after_closing m writer ends puts
+after m (Recover writer) = after_recovery m writer
 
 -- The state after a step and whether it was allowed: where it wasn't, nothing changed.
 abbrev pub told : State → Option State → State × Bool

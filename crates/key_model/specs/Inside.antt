@@ -1,13 +1,21 @@
 -- What only this crate's own functions speak of.
-use Rattle.std.specs.Prelude.{ℕ, List, [], ◌∷◌, Some, None, IsSome}
+use Rattle.std.specs.Prelude.{ℕ, List, [], ◌∷◌, Bool, true, false, cond, ◌&&◌, is_some, is_none, Some, None, IsSome}
+use Rattle.std.specs.Map.{keys_of}
 use Rattle.std.specs.FinMap as fin
 use Rattle.std.specs.FinSet as sets
+use Rattle.std.specs.List.{list_any}
 use Rattle.std.specs.declared.option.Option.{Option}
+use Rattle.std.specs.declared.cmp.Ordering.{Ordering}
 use Rattle.tm_data.specs.declared.transaction.Txn.{Txn}
+use Rattle.tm_data.specs.declared.transaction.Writer.{Writer}
 use Rattle.tm_data.specs.declared.row_map.RowKey.{RowKey}
 use Rattle.tm_data.specs.Orders.{row_cmp, txn_cmp}
 use Rattle.key_model.specs.declared.values.Entry.{Entry}
-use Rattle.key_model.specs.State.{Open}
+use Rattle.key_model.specs.declared.events.Ended.{Ended}
+use Rattle.key_model.specs.declared.events.PutKey.{PutKey}
+use Rattle.key_model.specs.declared.closing.Ending.{Ending}
+use Rattle.key_model.specs.State.{Open, DyingRow, dying_cmp}
+use Rattle.key_model.specs.After.{same_writer, same_row, locked_row}
 
 -- the open transactions, where T has read one more key, or written one, if it is open
 abbrev pub reads_in : fin.FinMap txn_cmp Open → Txn → RowKey → Option Open → fin.FinMap txn_cmp Open
@@ -28,8 +36,27 @@ kept [] = []
 kept (e ∷ es) = keep e.0 e.1 (kept es)
 
 -- the map of the places that aren't empty
-abbrev pub valued : fin.FinMap row_cmp (Option (List ℕ)) → fin.FinMap row_cmp (List ℕ)
+abbrev pub valued : {K X : Type 0} {R : K → K → Ordering} → fin.FinMap R (Option X) → fin.FinMap R X
 valued m = fin.from_entries (kept (fin.entries m))
+
+-- the keys of the places that aren't empty
+abbrev pub there : {K X : Type 0} {R : K → K → Ordering} → fin.FinMap R (Option X) → sets.FinSet R
+there m = sets.from_list (keys_of (kept (fin.entries m)))
+
+-- each of the keys has a place
+abbrev pub HasAll : {K X : Type 0} {R : K → K → Ordering} → fin.FinMap R (Option X) → List K → Type 0
+HasAll m [] = Unit {0}
+HasAll m (k ∷ ks) = IsSome (fin.get m k) × HasAll m ks
+
+-- the map with these entries
+abbrev pub over : {K X : Type 0} {R : K → K → Ordering} → fin.FinMap R X → List (K × X) → fin.FinMap R X
+over m [] = m
+over m (e ∷ es) = over (fin.insert m e.0 e.1) es
+
+-- the set with these rows
+abbrev pub with_rows : sets.FinSet dying_cmp → List DyingRow → sets.FinSet dying_cmp
+with_rows s [] = s
+with_rows s (d ∷ ds) = with_rows (sets.insert s d) ds
 
 -- each value that is to enter has a place
 abbrev pub HasPlace : fin.FinMap row_cmp (Option (List ℕ)) → RowKey → Option (List ℕ) → Type 0
@@ -44,3 +71,42 @@ HasPlaces m (e ∷ es) = HasPlace m e.0 e.1 × HasPlaces m es
 abbrev pub entries_of : List (RowKey × List ℕ) → List Entry
 entries_of [] = []
 entries_of (e ∷ es) = record { table = e.0.table; key = e.0.key; value = e.1 } ∷ entries_of es
+
+-- ---- what a close changes
+
+-- no transaction ends
+abbrev pub no_ending : Ending
+no_ending = record { outcomes = fin.empty; writes = fin.empty }
+
+-- whether a place that isn't empty is one of this row
+abbrev pub locks_in : List (DyingRow × Option (Unit {0})) → RowKey → Bool
+locks_in places key = list_any (λ e. is_some e.1 && same_row e.0.row key) places
+
+-- what is written, with the values of one more transaction if it commits
+abbrev pub writes_with : Bool → fin.FinMap row_cmp (Option (List ℕ)) → fin.FinMap row_cmp (Option (List ℕ)) → fin.FinMap row_cmp (Option (List ℕ))
+writes_with true writes more = over writes (fin.entries more)
+writes_with false writes more = writes
+
+-- one more transaction ends
+abbrev pub with_ending : Ending → Ended → Open → Ending
+with_ending g e touched = record { outcomes = fin.insert g.outcomes e.txn e.committed; writes = writes_with e.committed g.writes touched.writes }
+
+-- an end in the log ends its transaction if that is open and has no end before
+abbrev pub ending_if : Ending → Ended → Option Open → Option Bool → Ending
+ending_if g e None outcome = g
+ending_if g e (Some touched) (Some committed) = g
+ending_if g e (Some touched) None = with_ending g e touched
+
+abbrev pub all_ending : fin.FinMap txn_cmp Open → Ending → List Ended → Ending
+all_ending opened g [] = g
+all_ending opened g (e ∷ es) = all_ending opened (ending_if g e (fin.get opened e.txn) (fin.get g.outcomes e.txn)) es
+
+-- the transaction is the writer's, open, and has no end in the log
+abbrev pub is_left : fin.FinMap txn_cmp Open → fin.FinMap txn_cmp Bool → Writer → Txn → Bool
+is_left opened outcomes writer t = same_writer t.writer writer && (is_some (fin.get opened t) && is_none (fin.get outcomes t))
+
+-- the rows of those among the puts
+abbrev pub rows_left : fin.FinMap txn_cmp Open → fin.FinMap txn_cmp Bool → Writer → List PutKey → List DyingRow
+rows_left opened outcomes writer [] = []
+rows_left opened outcomes writer (p ∷ ps) =
+    cond (is_left opened outcomes writer p.txn) (locked_row p ∷ rows_left opened outcomes writer ps) (rows_left opened outcomes writer ps)

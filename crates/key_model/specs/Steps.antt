@@ -1,5 +1,5 @@
 -- The steps of the plain machine: which reply may come where, and what it changes.
-use Rattle.std.specs.Prelude.{◌≡◌, ◌≢◌, ◌⊎◌, ℕ, List, [], ◌∷◌, Bool, true, false, Some, None, if◌then◌else◌}
+use Rattle.std.specs.Prelude.{◌≡◌, ◌≢◌, ◌⊎◌, ◌↔◌, Contains, ℕ, List, [], ◌∷◌, Bool, true, false, Some, None, if◌then◌else◌}
 use Rattle.std.specs.FinMap as fin
 use Rattle.std.specs.FinSet as sets
 use Rattle.std.specs.declared.option.Option.{Option}
@@ -10,8 +10,10 @@ use Rattle.tm_base.specs.declared.command.Command.{Command}
 use Rattle.tm_base.specs.declared.command.Command.TheVariants as command
 use Rattle.tm_base.specs.declared.reply.Reply.{Reply}
 use Rattle.tm_base.specs.declared.reply.Reply.TheVariants as reply
+use Rattle.key_model.specs.declared.events.Ended.{Ended}
+use Rattle.key_model.specs.declared.events.PutKey.{PutKey}
 use Rattle.key_model.specs.declared.step.MachineStep.{MachineStep}
-use Rattle.key_model.specs.declared.step.MachineStep.TheVariants.{Answered, Settle}
+use Rattle.key_model.specs.declared.step.MachineStep.TheVariants.{Answered, Settle, Close, Recover}
 use Rattle.key_model.specs.declared.sessions.Session.{Session}
 use Rattle.key_model.specs.State.{Open, State, untouched}
 
@@ -195,11 +197,52 @@ Settles old t None committed new = ⊥
 Settles old t (Some touched) true new = Commits old t touched new
 Settles old t (Some touched) false new = new ≡ with_settled old t false
 
+-- The end of a transaction in a closed log: it is settled so, if it is open.
+abbrev pub SettlesIfOpen : State → Ended → Option Open → State → Type 0
+SettlesIfOpen old e None new = new ≡ old
+SettlesIfOpen old e (Some touched) new = Settles old e.txn (Some touched) e.committed new
+
+-- These ends, one after another.
+abbrev pub SettleInTurn : State → List Ended → State → Type 0
+SettleInTurn old [] new = new ≡ old
+SettleInTurn old (e ∷ es) new = (mid : State) × SettlesIfOpen old e (fin.get old.opened e.txn) mid × SettleInTurn mid es new
+
+-- T is an open transaction of the writer.
+abbrev pub IsOpenOf : State → Writer → Txn → Type 0
+IsOpenOf m writer t = (t.writer ≡ writer) × (touched : Open) × (fin.get m.opened t ≡ Some touched)
+
+-- Every open transaction of the writer is open no longer, and of what these put, the keys are locked. The writer is
+-- closed; the map, the outcomes and the sessions stay.
+pub record Leaves (old : State) (writer : Writer) (puts : List PutKey) (new : State) : Type 0 where
+  pub gone : (t : Txn) → t.writer ≡ writer → fin.get new.opened t ≡ None
+  pub others : (t : Txn) → t.writer ≢ writer → fin.get new.opened t ≡ fin.get old.opened t
+  pub locked : (t : Txn) (key : RowKey) → sets.contains new.dying (record { row = key; txn = t }) ≡ true
+      ↔ (sets.contains old.dying (record { row = key; txn = t }) ≡ true) ⊎ (IsOpenOf old writer t × Contains puts (record { txn = t; table = key.table; key = key.key }))
+  pub rest : new ≡ record old { opened = new.opened; dying = new.dying; closed = sets.insert old.closed writer }
+
+-- A writer that isn't closed is closed: of its open transactions those that have their end in the log are settled so, in
+-- the order of the ends, and every other one leaves its keys locked.
+pub record Closes (old : State) (writer : Writer) (ends : List Ended) (puts : List PutKey) (new : State) : Type 0 where
+  pub open_ : sets.contains old.closed writer ≡ false
+  pub mid : State
+  pub settled : SettleInTurn old ends mid
+  pub left : Leaves mid writer puts new
+
+-- A closed writer is recovered: its transactions lock no key any longer.
+pub record IsRecovered (old : State) (writer : Writer) (new : State) : Type 0 where
+  pub closed : sets.contains old.closed writer ≡ true
+  pub free : (t : Txn) (key : RowKey) → t.writer ≡ writer → sets.contains new.dying (record { row = key; txn = t }) ≡ false
+  pub others : (t : Txn) (key : RowKey) → t.writer ≢ writer
+      → sets.contains new.dying (record { row = key; txn = t }) ≡ sets.contains old.dying (record { row = key; txn = t })
+  pub rest : new ≡ record old { dying = new.dying; recovered = sets.insert old.recovered writer }
+
 -- The machine may go from `old` to `new` by this step.
 abbrev pub Steps : State → MachineStep → State → Type 0
 Steps old (Answered writer session asked said) new =
     AnswersDoomed old (txn_in old writer session) said new ⊎ AnswersLiving old writer session asked said new
 Steps old (Settle t committed) new = Settles old t (fin.get old.opened t) committed new
+Steps old (Close writer ends puts) new = Closes old writer ends puts new
+Steps old (Recover writer) new = IsRecovered old writer new
 
 -- These steps, one after another, lead from `old` to `new`.
 abbrev pub Run : State → List MachineStep → State → Type 0

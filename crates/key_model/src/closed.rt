@@ -1,12 +1,14 @@
 //! What is kept of writers that are closed.
-ghost use Rattle.std.specs.Prelude.{◌≡◌};
+ghost use Rattle.std.specs.Prelude.{◌≡◌, not, OnOk, OnErr, None};
+ghost use Rattle.std.specs.FinMap as fin;
 ghost use Rattle.std.specs.FinSet as sets;
-ghost use Rattle.key_model.specs.After.{locks};
+ghost use Rattle.key_model.specs.After.{same_writer, locks};
+ghost use Rattle.key_model.specs.Inside.{there, with_rows, HasAll};
 
 use std::alloc::Global;
-use std::collections::BTreeSet;
+use std::collections::{BTreeMap, BTreeSet};
 use std::marker::Model;
-use tm_base::{RowKey, Txn, Writer};
+use tm_base::{ItemList, Mem, NoMemory, RowKey, TryCopy, Txn, Writer};
 
 /// A set of writers. Contracts see the finite set.
 #[derive(Drop)]
@@ -42,6 +44,15 @@ impl WriterSet {
     {
         self.writers.contains(&writer)
     }
+
+    /// Adds a writer, unless it is one of these.
+    pub fn insert(&mut self, writer: Writer) -> Mem<()>
+        ensures ok { OnOk result (self.new ≡ sets.insert self.old writer) }
+        ensures err { OnErr result (self.new ≡ self.old) }
+    {
+        self.writers.insert(writer)?;
+        Ok(())
+    }
 }
 
 /// A row that a transaction had written when its writer was closed, and that stays locked until the
@@ -52,43 +63,110 @@ pub struct DyingRow {
     pub txn: Txn,
 }
 
-/// The rows that transactions of closed writers have locked. Contracts see the finite set.
-#[derive(Drop)]
-pub struct DyingSet {
-    rows: BTreeSet<DyingRow>,
+impl TryCopy for DyingRow {
+    fn copy(&self) -> Mem<DyingRow> {
+        Ok(DyingRow {
+            row: self.row.copy()?,
+            txn: self.txn,
+        })
+    }
 }
 
-impl Model for DyingSet {
-    ghost use Rattle.std.specs.FinSet as sets;
-    ghost use Rattle.tm_data.specs.Maps.{as_set};
+/// Rows that stay locked.
+pub type DyingList = ItemList<DyingRow>;
+
+/// A place for each row that may be locked by a transaction of a closed writer: an empty place counts as
+/// no row. So rows can be locked without memory once there are places for them. Contracts see the finite
+/// map of the places.
+#[derive(Drop)]
+pub struct DyingMap {
+    places: BTreeMap<DyingRow, Option<()>>,
+}
+
+impl Model for DyingMap {
+    ghost use Rattle.std.specs.Coded.{coded_option};
+    ghost use base.Stored.{coded_unit};
+    ghost use Rattle.std.specs.FinMap as fin;
+    ghost use Rattle.std.specs.declared.option.Option.{Option};
+    ghost use Rattle.tm_data.specs.Maps.{as_map};
     ghost use Rattle.key_model.specs.State.{dying_cmp, coded_dying};
 
-    ghost Value = { sets.FinSet dying_cmp };
+    ghost Value = { fin.FinMap dying_cmp (Option (Unit {0})) };
 
-    ghost coded = { sets.code coded_dying };
+    ghost coded = { fin.code coded_dying (coded_option coded_unit) };
 
-    ghost view = { λ s. as_set s.rows };
+    ghost view = { λ m. as_map m.places };
 }
 
-impl DyingSet {
+impl DyingMap {
     /// No row is locked.
-    pub fn new(alloc: Global) -> DyingSet
-        ensures { result ≡ sets.empty }
+    pub fn new(alloc: Global) -> DyingMap
+        ensures { result ≡ fin.empty }
     {
-        DyingSet {
-            rows: BTreeSet::new(alloc),
+        DyingMap {
+            places: BTreeMap::new(alloc),
+        }
+    }
+
+    // Sets the place of a row. Only a new row may want memory.
+    fn insert(&mut self, dying: DyingRow, place: Option<()>) -> Mem<()>
+        ensures ok { OnOk result (self.new ≡ fin.insert self.old dying place) }
+        ensures err { OnErr result (self.new ≡ self.old) }
+        ensures absent { OnErr result (fin.get self.old dying ≡ None) }
+    {
+        let Ok(_) = self.places.insert(dying, place) else {
+            return Err(NoMemory);
+        };
+        Ok(())
+    }
+
+    // Whether the row has a place.
+    fn has(&self, dying: &DyingRow) -> bool
+        ensures { result ≡ fin.contains_key self.now dying.now }
+    {
+        self.places.contains_key(dying)
+    }
+
+    /// Makes an empty place for each row that has none. No row is locked by it, also where memory is
+    /// wanting.
+    pub fn reserve(&mut self, rows: &DyingList) -> Mem<()>
+        ensures same { there self.new ≡ there self.old }
+        ensures ready { OnOk result (HasAll self.new rows.now) }
+    {
+        for dying in rows.as_slice().iter() {
+            if !self.has(dying) {
+                self.insert(dying.copy()?, None)?;
+            }
+        }
+        Ok(())
+    }
+
+    /// Locks the rows.
+    pub fn enter(&mut self, rows: DyingList)
+        requires { HasAll self.old rows }
+        ensures { there self.new ≡ with_rows (there self.old) rows }
+    {
+        for dying in rows.into_vec() {
+            let _ = self.insert(dying, Some(()));
         }
     }
 
     /// Whether a transaction has locked the row.
     pub fn locks(&self, key: &RowKey) -> bool
-        ensures { result ≡ locks (sets.items self.now) key.now }
+        ensures { result ≡ locks (sets.items (there self.now)) key.now }
     {
-        for dying in self.rows.iter() {
-            if dying.row == *key {
+        for (dying, place) in self.places.iter() {
+            if place.is_some() && dying.row == *key {
                 return true;
             }
         }
         false
+    }
+
+    /// Frees the rows that transactions of this writer have locked.
+    pub fn free(&mut self, writer: Writer)
+        ensures { self.new ≡ fin.retain_keys self.old (λ d. not (same_writer d.txn.writer writer)) }
+    {
+        self.places.retain(|dying, _place| dying.txn.writer != writer);
     }
 }

@@ -5,11 +5,13 @@
 #![tactic(auto)]
 
 mod closed;
+mod closing;
 mod events;
 pub mod laws;
 mod machine;
 mod opened;
 mod sessions;
+mod settled;
 mod step;
 #[cfg(test)]
 mod tests;

@@ -3,14 +3,16 @@ ghost use Rattle.std.specs.Prelude.{◌≡◌, ◌&&◌, IfOk, OnOk, OnErr, is_n
 ghost use Rattle.std.specs.FinMap as fin;
 ghost use Rattle.key_model.specs.State.{State, empty};
 ghost use Rattle.key_model.specs.Steps.{txn_in, open_txn, says_end, seen};
-ghost use Rattle.key_model.specs.After.{stepped, told, is_doomed, may_begin, after_begun, may_see, after_value, may_write, after_done, same_value, is_ended, after_ended, after_recovered, after_answer, after_settled};
+ghost use Rattle.key_model.specs.After.{stepped, told, is_doomed, may_begin, after_begun, may_see, after_value, may_write, after_done, same_value, is_ended, after_ended, after_recovered, after_answer, after_settled, after_closing, after_recovery};
 ghost use Rattle.key_model.specs.Inside.{entries_of};
 ghost use Rattle.key_model.specs.Took.{Took};
 
-use crate::MachineStep;
-use crate::closed::{DyingSet, WriterSet};
+use crate::{EndList, MachineStep, PutList};
+use crate::closed::{DyingMap, WriterSet};
+use crate::closing::{ending_of, rows_of};
 use crate::opened::{Open, OpenMap};
 use crate::sessions::{Session, SessionMap};
+use crate::settled::{Outcomes, enter_end, enter_ends, outcome_of, reserve_ends};
 use crate::values::{Entry, EntryList, Places, enter, reserve};
 use std::alloc::Global;
 use std::marker::Model;
@@ -27,22 +29,22 @@ pub struct Machine {
     alloc: Global,
     places: Places,
     opened: OpenMap,
-    dying: DyingSet,
-    settled: TxnMap<bool>,
+    dying: DyingMap,
+    settled: Outcomes,
     sessions: SessionMap,
     closed: WriterSet,
     recovered: WriterSet,
 }
 
 impl Model for Machine {
-    ghost use Rattle.key_model.specs.Inside.{valued};
+    ghost use Rattle.key_model.specs.Inside.{valued, there};
     ghost use Rattle.key_model.specs.State.{State, coded_state};
 
     ghost Value = { State };
 
     ghost coded = { coded_state };
 
-    ghost view = { λ m. record { map = valued m.places; opened = m.opened; dying = m.dying; settled = m.settled; sessions = m.sessions; closed = m.closed; recovered = m.recovered } };
+    ghost view = { λ m. record { map = valued m.places; opened = m.opened; dying = there m.dying; settled = valued m.settled; sessions = m.sessions; closed = m.closed; recovered = m.recovered } };
 }
 
 // Whether these are one value, or none both.
@@ -65,7 +67,7 @@ impl Machine {
             alloc,
             places: RowMap::new(alloc),
             opened: OpenMap::new(alloc),
-            dying: DyingSet::new(alloc),
+            dying: DyingMap::new(alloc),
             settled: TxnMap::new(alloc),
             sessions: SessionMap::new(alloc),
             closed: WriterSet::new(alloc),
@@ -118,6 +120,8 @@ impl Machine {
                 self.answer(*writer, *session, command, reply)
             }
             MachineStep::Settle { txn, committed } => self.settle(txn, *committed),
+            MachineStep::Close { writer, ends, puts } => self.close(*writer, ends, puts),
+            MachineStep::Recover { writer } => self.recover(*writer),
         }
     }
 
@@ -143,7 +147,7 @@ impl Machine {
         let Some(txn) = mine else {
             return false;
         };
-        self.closed.contains(txn.writer) && self.settled.get(&txn).is_none()
+        self.closed.contains(txn.writer) && outcome_of(&self.settled, &txn).is_none()
     }
 
     // A reply in a session whose transaction isn't doomed.
@@ -208,7 +212,7 @@ impl Machine {
     {
         self.sessions.get(&session).is_none()
             && !self.sessions.has(&txn)
-            && self.settled.get(&txn).is_none()
+            && outcome_of(&self.settled, &txn).is_none()
             && txn.writer == session.writer
     }
 
@@ -311,10 +315,10 @@ impl Machine {
         let Some(own) = self.sessions.get(&session) else {
             return false;
         };
-        let Some(outcome) = self.settled.get(&txn) else {
+        let Some(outcome) = outcome_of(&self.settled, &txn) else {
             return false;
         };
-        *own == txn && *outcome == committed
+        *own == txn && outcome == committed
     }
 
     fn end(&mut self, writer: Option<Writer>, session: u16, txn: Txn, committed: bool) -> bool
@@ -344,12 +348,45 @@ impl Machine {
         if committed {
             reserve(&mut self.places, &touched.writes)?;
         }
-        self.settled.insert(*txn, committed)?;
+        enter_end(&mut self.settled, *txn, committed)?;
         if let Some(touched) = self.opened.end(txn)
             && committed
         {
             enter(&mut self.places, touched.writes);
         }
+        Ok(true)
+    }
+
+    // All memory is taken before the first change that can be seen.
+    fn close(&mut self, writer: Writer, ends: &EndList, puts: &PutList) -> Mem<bool>
+        ensures ok { IfOk result (λ allowed. (self.new, allowed) ≡ told self.old (after_closing self.old writer ends.now puts.now)) }
+        ensures err { OnErr result (self.new ≡ self.old) }
+    {
+        if self.closed.contains(writer) {
+            return Ok(false);
+        }
+        let ending = ending_of(self.alloc, &self.opened, ends)?;
+        let rows = rows_of(self.alloc, &self.opened, &ending.outcomes, writer, puts)?;
+        reserve(&mut self.places, &ending.writes)?;
+        reserve_ends(&mut self.settled, &ending.outcomes)?;
+        self.dying.reserve(&rows)?;
+        self.closed.insert(writer)?;
+        self.opened.leave(writer, &ending.outcomes);
+        enter_ends(&mut self.settled, &ending.outcomes);
+        enter(&mut self.places, ending.writes);
+        self.dying.enter(rows);
+        Ok(true)
+    }
+
+    fn recover(&mut self, writer: Writer) -> Mem<bool>
+        ensures ok { IfOk result (λ allowed. (self.new, allowed) ≡ told self.old (after_recovery self.old writer)) }
+        ensures err { OnErr result (self.new ≡ self.old) }
+    {
+        if !self.closed.contains(writer) {
+            return Ok(false);
+        }
+        self.recovered.insert(writer)?;
+        self.dying.free(writer);
         Ok(true)
     }
 }

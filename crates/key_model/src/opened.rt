@@ -1,15 +1,15 @@
 //! The open transactions: what each has read and written.
-ghost use Rattle.std.specs.Prelude.{◌≡◌, OnOk, OnErr};
+ghost use Rattle.std.specs.Prelude.{◌≡◌, ◌&&◌, not, is_none, OnOk, OnErr};
 ghost use Rattle.std.specs.FinMap as fin;
 ghost use Rattle.std.specs.Option.{option_copied};
 ghost use Rattle.key_model.specs.State.{untouched};
-ghost use Rattle.key_model.specs.After.{wrote_by_other, read_by_other};
+ghost use Rattle.key_model.specs.After.{same_writer, wrote_by_other, read_by_other};
 ghost use Rattle.key_model.specs.Inside.{reads_in, writes_in};
 
 use std::alloc::Global;
 use std::collections::BTreeMap;
 use std::marker::Model;
-use tm_base::{ByteList, Mem, RowKey, RowMap, RowSet, Txn};
+use tm_base::{ByteList, Mem, RowKey, RowMap, RowSet, Txn, TxnMap, Writer};
 
 /// What an open transaction has read, and what it has written: none where it has deleted.
 #[derive(Drop)]
@@ -106,6 +106,14 @@ impl OpenMap {
         ensures removed { self.new ≡ fin.remove self.old txn.now }
     {
         self.opened.remove(txn)
+    }
+
+    /// Takes out the transactions that end, and all of the writer.
+    pub fn leave(&mut self, writer: Writer, ends: &TxnMap<bool>)
+        ensures { self.new ≡ fin.retain_keys self.old (λ t. not (same_writer t.writer writer) && is_none (fin.get ends.now t)) }
+    {
+        self.opened
+            .retain(|txn, _touched| txn.writer != writer && ends.get(txn).is_none());
     }
 
     /// Whether an open transaction other than this one has written the key.

@@ -1,6 +1,7 @@
 //! What a step of the machine is.
 ghost use Rattle.std.specs.Prelude.{◌≡◌};
 
+use crate::{EndList, PutList};
 use tm_base::{Command, Mem, Reply, TryCopy, Txn, Writer};
 
 /// A step of the machine.
@@ -18,6 +19,15 @@ pub enum MachineStep {
         txn: Txn,
         committed: bool,
     },
+    /// The log of a writer has an end. `ends` are the ends of its transactions in the log, in order, and `puts` the
+    /// keys that its transactions have put there.
+    Close {
+        writer: Writer,
+        ends: EndList,
+        puts: PutList,
+    },
+    /// The open transactions of a closed writer are undone.
+    Recover { writer: Writer },
 }
 
 impl TryCopy for MachineStep {
@@ -38,6 +48,12 @@ impl TryCopy for MachineStep {
                 txn: *txn,
                 committed: *committed,
             },
+            MachineStep::Close { writer, ends, puts } => MachineStep::Close {
+                writer: *writer,
+                ends: ends.copy()?,
+                puts: puts.copy()?,
+            },
+            MachineStep::Recover { writer } => MachineStep::Recover { writer: *writer },
         })
     }
 }

@@ -1,4 +1,4 @@
-use Rattle.key_model.proofs.LawLemmas.{run_to, run_from}
+use Rattle.key_model.proofs.StepLemmas.{run_to, run_from}
 use Rattle.key_model.proofs.laws.runs_are_after_all.Goals as goal
 
 pub returns : goal.returns

@@ -1,4 +1,4 @@
-use Rattle.key_model.proofs.LawLemmas.{step_to, step_from}
+use Rattle.key_model.proofs.StepLemmas.{step_to, step_from}
 use Rattle.key_model.proofs.laws.steps_are_after.Goals as goal
 
 pub returns : goal.returns

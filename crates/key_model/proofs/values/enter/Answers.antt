@@ -4,7 +4,8 @@ use Rattle.std.specs.FinMap as fin
 use Rattle.tm_data.specs.Orders.{row_cmp}
 use Rattle.key_model.specs.Inside.{valued, HasPlaces}
 use Rattle.key_model.specs.After.{with_all}
-use Rattle.key_model.proofs.ValuedLemmas.{ok_only, place_there, enter_turn, leave_turn}
+use Rattle.key_model.proofs.ValuedLemmas.{place_there, enter_turn, leave_turn}
+use Rattle.key_model.proofs.PlaceLemmas.{ok_only}
 use Rattle.key_model.proofs.values.enter.Goals as goal
 
 pub loop-key-init : goal.loop-key-init

@@ -1,7 +1,8 @@
 use Rattle.std.proofs.Common.{◌∙◌, None, sym, ap, subst, rules}
 use Rattle.std.specs.FinMap as fin
 use Rattle.key_model.specs.Inside.{HasPlaces}
-use Rattle.key_model.proofs.ValuedLemmas.{reserve_turn, copied_none}
+use Rattle.key_model.proofs.ValuedLemmas.{reserve_turn}
+use Rattle.key_model.proofs.PlaceLemmas.{copied_none}
 use Rattle.key_model.proofs.values.reserve.Goals as goal
 
 pub loop-key-preserved-then-is_none : goal.loop-key-preserved-then-is_none

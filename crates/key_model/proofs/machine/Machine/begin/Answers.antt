@@ -1,7 +1,7 @@
 use Rattle.std.proofs.Common.{◌≡◌, ◌∙◌, ap, rules}
 use Rattle.std.specs.Prelude.{true}
 use Rattle.std.specs.FinMap as fin
-use Rattle.key_model.specs.Inside.{valued}
+use Rattle.key_model.specs.Inside.{valued, there}
 use Rattle.key_model.specs.Steps.{at}
 use Rattle.key_model.specs.After.{may_begin}
 use Rattle.key_model.proofs.BeginLemmas.{may_begin_vacant, freed_again}
@@ -17,8 +17,8 @@ returns-in-Err-clause-err c =
     (λ i. record {
       map = valued c.self.inside.places;
       opened = c.in-Err.ensures.err i;
-      dying = c.self.inside.dying;
-      settled = c.self.inside.settled;
+      dying = there c.self.inside.dying;
+      settled = valued c.self.inside.settled;
       sessions = freed i;
       closed = c.self.inside.closed;
       recovered = c.self.inside.recovered;

@@ -2,7 +2,8 @@ use Rattle.std.proofs.Common.{◌∙◌, sym, ap}
 use Rattle.std.specs.FinMap as fin
 use Rattle.key_model.specs.Steps.{or_mapped}
 use Rattle.key_model.specs.After.{same_value}
-use Rattle.key_model.proofs.ValuedLemmas.{get-valued, or_gone}
+use Rattle.key_model.proofs.ValuedLemmas.{get-valued}
+use Rattle.key_model.proofs.PlaceLemmas.{or_gone}
 use Rattle.key_model.proofs.BeginLemmas.{none_same}
 use Rattle.key_model.proofs.machine.Machine.sees.Goals as goal
 

@@ -1,5 +1,5 @@
 use Rattle.std.proofs.lemmas.Result.{IfOk-weaker}
-use Rattle.key_model.proofs.LawLemmas.{took}
+use Rattle.key_model.proofs.StepLemmas.{took}
 use Rattle.key_model.proofs.machine.Machine.step.Goals as goal
 
 pub returns-clause-took : goal.returns-clause-took
