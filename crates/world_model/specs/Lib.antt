@@ -1,0 +1,5 @@
+pub mod Disk
+pub mod World
+pub mod Past
+pub mod Nodes
+pub mod Step
