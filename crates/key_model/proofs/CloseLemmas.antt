@@ -93,8 +93,8 @@ module _ (m : State) (writer : Writer) (d : DyingRow) where
   locked_one dying p false is h = inl h
   locked_one dying p true is h = elim (either _ _ (sym (sets.contains-insert dying_cmp-total dying (locked_row p) d) ∙ h)) [
     | inl same ↦
-      let same : d ≡ locked_row p = equal dying_cmp-total dying_cmp-exact d (locked_row p) same in
-      inr (true_open m writer d.txn (ap (λ (x : DyingRow). is_open_of m writer x.txn) same ∙ is), sym (ap put_of same))
+        let same : d ≡ locked_row p = equal dying_cmp-total dying_cmp-exact d (locked_row p) same in
+        inr (true_open m writer d.txn (ap (λ (x : DyingRow). is_open_of m writer x.txn) same ∙ is), sym (ap put_of same))
     | inr was ↦ inl was
   ]
 
@@ -114,9 +114,9 @@ module _ (m : State) (writer : Writer) (d : DyingRow) where
   locked_to dying (p ∷ puts) h =
       elim (locked_to (cond (is_open_of m writer p.txn) (sets.insert dying (locked_row p)) dying) puts h) [
         | inl now ↦ elim (locked_one dying p (is_open_of m writer p.txn) refl now) [
-            | inl was ↦ inl was
-            | inr x ↦ inr (x.0, contains_first p (put_of d) puts x.1)
-          ]
+          | inl was ↦ inl was
+          | inr x ↦ inr (x.0, contains_first p (put_of d) puts x.1)
+        ]
         | inr x ↦ inr (x.0, contains_tail p puts (put_of d) x.1)
       ]
 

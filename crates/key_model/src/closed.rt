@@ -167,6 +167,7 @@ impl DyingMap {
     pub fn free(&mut self, writer: Writer)
         ensures { self.new ≡ fin.retain_keys self.old (λ d. not (same_writer d.txn.writer writer)) }
     {
-        self.places.retain(|dying, _place| dying.txn.writer != writer);
+        self.places
+            .retain(|dying, _place| dying.txn.writer != writer);
     }
 }

@@ -7,13 +7,13 @@ ghost use Rattle.key_model.specs.After.{stepped, told, is_doomed, may_begin, aft
 ghost use Rattle.key_model.specs.Inside.{entries_of};
 ghost use Rattle.key_model.specs.Took.{Took};
 
-use crate::{EndList, MachineStep, PutList};
 use crate::closed::{DyingMap, WriterSet};
 use crate::closing::{ending_of, rows_of};
 use crate::opened::{Open, OpenMap};
 use crate::sessions::{Session, SessionMap};
 use crate::settled::{Outcomes, enter_end, enter_ends, outcome_of, reserve_ends};
 use crate::values::{Entry, EntryList, Places, enter, reserve};
+use crate::{EndList, MachineStep, PutList};
 use std::alloc::Global;
 use std::marker::Model;
 use tm_base::{

@@ -112,8 +112,7 @@ impl OpenMap {
     pub fn leave(&mut self, writer: Writer, ends: &TxnMap<bool>)
         ensures { self.new ≡ fin.retain_keys self.old (λ t. not (same_writer t.writer writer) && is_none (fin.get ends.now t)) }
     {
-        self.opened
-            .retain(|txn, _touched| txn.writer != writer && ends.get(txn).is_none());
+        self.opened.retain(|txn, _touched| txn.writer != writer && ends.get(txn).is_none());
     }
 
     /// Whether an open transaction other than this one has written the key.

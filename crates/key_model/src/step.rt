@@ -27,7 +27,9 @@ pub enum MachineStep {
         puts: PutList,
     },
     /// The open transactions of a closed writer are undone.
-    Recover { writer: Writer },
+    Recover {
+        writer: Writer,
+    },
 }
 
 impl TryCopy for MachineStep {

@@ -20,15 +20,15 @@ loop-dying-preserved c =
     let cut : drop i rows ≡ k ∷ drop (i + 1) rows = drop_more rows i k (subst (λ xs. i < length xs) same c.loop-dying-test.true) ∙ ap (λ x. x ∷ drop (i + 1) rows) at in
     elim c.if-not-has.branch [
       | then-not-has+in_ok-copy+in_ok-insert w ↦
-        let new : c.if-not-has.self ≡ fin.insert m k None = search rules in
-        let none : fin.get m k ≡ None = none_where_not (fin.get m k) (search rules) in (
-          same_there dying_cmp-total dying_cmp-exact m c.if-not-has.self c.args.self.now k new none inv.0,
-          reserves_new dying_cmp-total dying_cmp-exact m c.if-not-has.self (drop i rows) (drop (i + 1) rows) rows k cut new inv.1,
-        )
+          let new : c.if-not-has.self ≡ fin.insert m k None = search rules in
+          let none : fin.get m k ≡ None = none_where_not (fin.get m k) (search rules) in (
+            same_there dying_cmp-total dying_cmp-exact m c.if-not-has.self c.args.self.now k new none inv.0,
+            reserves_new dying_cmp-total dying_cmp-exact m c.if-not-has.self (drop i rows) (drop (i + 1) rows) rows k cut new inv.1,
+          )
       | else-not-has w ↦
-        let same : c.if-not-has.self ≡ m = search rules in
-        let had : IsSome (fin.get m k) = search rules in
-        (ap there same ∙ inv.0, subst (λ n. Reserves dying_cmp-total dying_cmp-exact n (drop (i + 1) rows) rows) (sym same) (reserves_old dying_cmp-total dying_cmp-exact m (drop i rows) (drop (i + 1) rows) rows k cut had inv.1))
+          let same : c.if-not-has.self ≡ m = search rules in
+          let had : IsSome (fin.get m k) = search rules in
+          (ap there same ∙ inv.0, subst (λ n. Reserves dying_cmp-total dying_cmp-exact n (drop (i + 1) rows) rows) (sym same) (reserves_old dying_cmp-total dying_cmp-exact m (drop i rows) (drop (i + 1) rows) rows k cut had inv.1))
     ]
 
 pub returns-clause-ready : goal.returns-clause-ready
