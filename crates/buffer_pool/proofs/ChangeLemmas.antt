@@ -97,6 +97,11 @@ changed (Err Unfit) page es n old new change stamp own is answers =
 changed (Err (WrongPrev has wants)) page es n old new change stamp own is answers =
     (unchanged page es n old new is answers.0, held_is page es n old change stamp own is ∙ ap (with_version (pool (images_in es) n)) answers.1)
 
+-- Whatever is answered, the image is of the page under which it was found.
+pub answered_found : {U : Type 0} (r : Result U RedoError) (page : ℕ) (es : List (ℕ × Image)) (old new : Image) (change : Record) (stamp : ℕ) → AreOwn es → lookup (nat_eq page) es ≡ Some old
+    → Answers r old new (redo_of old change stamp) → new.page.0 ≡ page
+answered_found r page es old new change stamp own is answers = ap (λ (p : _). p.0) (answered_page r old new change stamp answers) ∙ found_page page es old own is
+
 -- The image may be written: the cache keeps its invariant.
 pub kept : {U : Type 0} (r : Result U RedoError) (page : ℕ) (es : List (ℕ × Image)) (old new : Image) (change : Record) (stamp : ℕ) → AreOwn es → lookup (nat_eq page) es ≡ Some old
     → Answers r old new (redo_of old change stamp) → AreOwn (set_value (nat_eq page) es new)

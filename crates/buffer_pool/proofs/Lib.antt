@@ -1,3 +1,4 @@
 pub mod PoolLemmas
 pub mod ChangeLemmas
 pub mod LawLemmas
+mod OneLemmas

@@ -5,7 +5,7 @@ ghost use Rattle.std.specs.Map.{lookup, remove_entry};
 ghost use Rattle.std.specs.Borrow.{sem};
 ghost use Rattle.std.specs.Option.{option_copied};
 ghost use Rattle.page_model.specs.Effects.{page_of};
-ghost use Rattle.page_model.specs.Pool.{pool, image_of, without, used, last_durable, put_in};
+ghost use Rattle.page_model.specs.Pool.{OneEach, pool, image_of, without, used, last_durable, put_in};
 ghost use Rattle.page_redo.specs.Redo.{Answers};
 ghost use Rattle.buffer_pool.specs.Change.{change_of};
 
@@ -47,14 +47,14 @@ pub struct Pool {
 
 impl Model for Pool {
     ghost use Rattle.std.specs.Prelude.{◌≡◌, ◌+◌, ◌≤◌, length};
-    ghost use Rattle.page_model.specs.Pool.{Pool, pool};
+    ghost use Rattle.page_model.specs.Pool.{OneEach, Pool, pool};
     ghost use Rattle.buffer_pool.specs.Inside.{AreOwn, images_in};
 
     ghost Value = { Pool };
 
     ghost view = { λ p. pool (images_in p.cache.entries) p.places };
 
-    ghost invariant = { λ p. (p.cache.cap ≡ p.places + 1) × (length p.cache.entries ≤ p.places) × (1 ≤ p.places) × AreOwn p.cache.entries };
+    ghost invariant = { λ p. (p.cache.cap ≡ p.places + 1) × (length p.cache.entries ≤ p.places) × (1 ≤ p.places) × AreOwn p.cache.entries × OneEach (images_in p.cache.entries) };
 }
 
 impl Pool {
@@ -77,16 +77,19 @@ impl Pool {
         })
     }
 
-    /// The image of a page, which leaves the order of use as it is.
-    #[tactic(auto, using(crate::proofs::PoolLemmas::image_under))]
+    /// The image of a page, which leaves the order of use as it is. Each page has one image at most, and there
+    /// are no more images than places.
+    #[tactic(auto, using(crate::proofs::PoolLemmas::image_under, crate::proofs::PoolLemmas::images_length))]
     pub fn find(&self, page: Page) -> Option<&Image>
-        ensures { option_copied result ≡ image_of page.0 self.now.images }
+        ensures value { option_copied result ≡ image_of page.0 self.now.images }
+        ensures one { OneEach self.now.images }
+        ensures fits { length self.now.images ≤ self.now.places }
     {
         self.cache.peek(&page.0)
     }
 
     /// The image of a page, which is the last used one then.
-    #[tactic(auto, using(crate::proofs::PoolLemmas::image_under, crate::proofs::PoolLemmas::used_under, crate::proofs::PoolLemmas::promoted_length, crate::proofs::PoolLemmas::own_promoted))]
+    #[tactic(auto, using(crate::proofs::PoolLemmas::image_under, crate::proofs::PoolLemmas::used_under, crate::proofs::PoolLemmas::promoted_length, crate::proofs::PoolLemmas::own_promoted, crate::proofs::OneLemmas::one_promoted))]
     pub fn get(&mut self, page: Page) -> Option<&Image>
         ensures value { option_copied result ≡ image_of page.0 self.old.images }
         ensures* order { sem 𝓛 (EndsAs self.entry (used page.0 self.old.images)) }
@@ -95,7 +98,7 @@ impl Pool {
     }
 
     /// Drops the image of a page, if it is there.
-    #[tactic(auto, using(crate::proofs::PoolLemmas::without_under, crate::proofs::PoolLemmas::without_length, crate::proofs::PoolLemmas::own_without))]
+    #[tactic(auto, using(crate::proofs::PoolLemmas::without_under, crate::proofs::PoolLemmas::without_length, crate::proofs::PoolLemmas::own_without, crate::proofs::OneLemmas::one_left))]
     pub fn drop_page(&mut self, page: Page)
         ensures { self.new ≡ pool (without page.0 self.old.images) self.old.places }
     {
@@ -107,7 +110,7 @@ impl Pool {
     ///
     /// Refuses `Full` exactly where all places are taken by other pages with greater stamps. With `Full` and
     /// with want of memory nothing changes.
-    #[tactic(auto, using(crate::proofs::PoolLemmas::put_held, crate::proofs::PoolLemmas::put_room, crate::proofs::PoolLemmas::put_drops, crate::proofs::PoolLemmas::put_full, crate::proofs::PoolLemmas::victim_held, crate::proofs::PoolLemmas::own_without, crate::proofs::PoolLemmas::held_less, crate::proofs::PoolLemmas::without_length))]
+    #[tactic(auto, using(crate::proofs::PoolLemmas::put_held, crate::proofs::PoolLemmas::put_room, crate::proofs::PoolLemmas::put_drops, crate::proofs::PoolLemmas::put_full, crate::proofs::PoolLemmas::victim_held, crate::proofs::PoolLemmas::own_without, crate::proofs::PoolLemmas::held_less, crate::proofs::PoolLemmas::without_length, crate::proofs::OneLemmas::one_entered, crate::proofs::OneLemmas::one_exchanged))]
     pub fn put(&mut self, image: Image, durable: Stamp) -> Result<(), PoolError>
         ensures ok { OnOk result (put_in self.old image durable.0 ≡ Some self.new.images) }
         ensures places { self.new.places ≡ self.old.places }

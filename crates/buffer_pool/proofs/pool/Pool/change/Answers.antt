@@ -2,7 +2,8 @@ use Rattle.std.proofs.Common.{◌∙◌, ◌≤◌, sym, ap, subst, Some, Ok}
 use Rattle.std.specs.Prelude.{IsSome}
 use Rattle.page_model.specs.Pool.{Pool, image_of}
 use Rattle.buffer_pool.specs.Change.{change_of}
-use Rattle.buffer_pool.proofs.ChangeLemmas.{changed, found_page, held_at, kept, set_length}
+use Rattle.buffer_pool.proofs.ChangeLemmas.{answered_found, changed, found_page, held_at, kept, set_length}
+use Rattle.buffer_pool.proofs.OneLemmas.{one_set}
 use Rattle.buffer_pool.proofs.pool.Pool.change.Goals as goal
 
 pub returns-in_default : goal.returns-in_default
@@ -21,6 +22,7 @@ invariant_of-self-in_err-apply c =
       subst (λ m. m ≤ n) (sym (set_length c.args.page.0 es c.apply.new.image)) c.self.invariant.1,
       c.self.invariant.2,
       kept c.apply.result c.args.page.0 es c.in-Some.image.now c.apply.new.image c.args.change.now c.args.stamp.0 c.self.invariant.3 (sym c.in-Some.ensures.value) c.apply.ensures,
+      one_set c.args.page.0 es c.apply.new.image c.self.invariant.3 (answered_found c.apply.result c.args.page.0 es c.in-Some.image.now c.apply.new.image c.args.change.now c.args.stamp.0 c.self.invariant.3 (sym c.in-Some.ensures.value) c.apply.ensures) c.self.invariant.4,
     )
 
 pub invariant_of-self-2 : goal.invariant_of-self-2
@@ -31,6 +33,7 @@ invariant_of-self-2 c =
       subst (λ m. m ≤ n) (sym (set_length c.args.page.0 es c.apply.new.image)) c.self.invariant.1,
       c.self.invariant.2,
       kept c.apply.result c.args.page.0 es c.in-Some.image.now c.apply.new.image c.args.change.now c.args.stamp.0 c.self.invariant.3 (sym c.in-Some.ensures.value) c.apply.ensures,
+      one_set c.args.page.0 es c.apply.new.image c.self.invariant.3 (answered_found c.apply.result c.args.page.0 es c.in-Some.image.now c.apply.new.image c.args.change.now c.args.stamp.0 c.self.invariant.3 (sym c.in-Some.ensures.value) c.apply.ensures) c.self.invariant.4,
     )
 
 pub returns : goal.returns
