@@ -1,5 +1,5 @@
 -- What only the crate's own functions speak of.
-use Rattle.std.specs.Prelude.{◌≡◌, ◌<◌, ◌≤◌, ◌^◌, ℕ, List, [], ◌∷◌, length, insert, reverse, slice_index_or}
+use Rattle.std.specs.Prelude.{◌≡◌, ◌<◌, ◌≤◌, ℕ, List, [], ◌∷◌, length, insert, reverse, slice_index_or}
 use Rattle.std.specs.declared.option.Option.TheVariants.{Some}
 use Rattle.std.specs.declared.result.Result.{Result}
 use Rattle.std.specs.declared.result.Result.TheVariants.{Ok, Err}
@@ -7,29 +7,14 @@ use Rattle.tm_data.specs.declared.transaction.Page.{Page}
 use Rattle.tm_data.specs.declared.image.Image.{Image}
 use Rattle.page_model.specs.Effects.{page_of, prev_of}
 use Rattle.page_model.specs.declared.link.Link.{Link}
-use Rattle.page_model.specs.Versions.{Held, Fault, Missing, Unfit, links_of, effect, version}
+use Rattle.page_model.specs.Versions.{Fault, Missing, Unfit, effect, version}
+pub use Rattle.version_chain.specs.Order.{IsLink, FallsBelow, IsChain, IsHeld}
 use Rattle.version_chain.specs.declared.place.Place.{Place}
 use Rattle.version_chain.specs.declared.place.Place.TheVariants.{At, Before}
 use Rattle.version_chain.specs.declared.error.VersionError.{VersionError}
 use Rattle.version_chain.specs.declared.error.VersionError.TheVariants as error
 
 -- ---- the order of links
-
--- A link of this page, whose record was made on an older version.
-abbrev pub IsLink : ℕ → Link → Type 0
-IsLink page l = (page_of l.change ≡ Some page) × (prev_of l.change < l.stamp.0)
-
--- Links of this page, whose stamps fall strictly, all below `high`.
-abbrev pub FallsBelow : ℕ → ℕ → List Link → Type 0
-FallsBelow page high [] = Unit {0}
-FallsBelow page high (l ∷ ls) = IsLink page l × (l.stamp.0 < high) × FallsBelow page l.stamp.0 ls
-
--- The links of a page, the newest first.
-abbrev pub IsChain : ℕ → List Link → Type 0
-IsChain page ls = FallsBelow page (2 ^ 64) ls
-
-abbrev pub IsHeld : Held → Type 0
-IsHeld pages = (page : ℕ) → IsChain page (links_of pages page)
 
 -- The stamp of the link in a place.
 abbrev pub stamp_at : List Link → ℕ → Link → ℕ

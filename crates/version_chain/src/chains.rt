@@ -4,6 +4,7 @@ ghost use Rattle.std.specs.FinMap.{empty};
 ghost use Rattle.page_model.specs.Effects.{page_of, prev_of};
 ghost use Rattle.page_model.specs.Versions.{links_of, link_of, taken, changed_page, same_link, version, version_upto, version_at_cut};
 ghost use Rattle.version_chain.specs.Answers.{Tells, Adds};
+ghost use Rattle.version_chain.specs.Order.{IsHeld};
 
 use crate::chain_map::ChainMap;
 use crate::place::{Place, last_covered, last_upto, place_of};
@@ -24,7 +25,7 @@ pub struct Chains {
 
 impl Model for Chains {
     ghost use Rattle.page_model.specs.Versions.{Held, coded_held};
-    ghost use Rattle.version_chain.specs.Inside.{IsHeld};
+    ghost use Rattle.version_chain.specs.Order.{IsHeld};
 
     ghost Value = { Held };
 
@@ -80,9 +81,11 @@ impl Chains {
     /// the version at its `prev`.
     ///
     /// `Missing` names the first stamp on that way down of which no record is held. Else `Unfit` names the
-    /// first record on the way up that doesn't suit.
+    /// first record on the way up that doesn't suit. The links of each page are its own, their stamps fall, and
+    /// each record was made on an older version.
     pub fn page_version(&self, page: Page, stamp: Stamp) -> Result<Image, VersionError>
-        ensures { Tells result (version page (links_of self.now page.0) stamp.0) }
+        ensures order { IsHeld self.now }
+        ensures value { Tells result (version page (links_of self.now page.0) stamp.0) }
     {
         let links = self.pages.links(page.0);
         version_of(self.alloc, page, links, stamp)
