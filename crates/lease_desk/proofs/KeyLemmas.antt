@@ -220,20 +220,14 @@ taken_now xs ys slice now q place rising is view there p new k =
 pub taken_within : (xs slice now : List ℕ) (q place : ℕ) → Rising xs → slice ≡ xs → xs ≡ now → is_in now q ≡ true → IsPlace slice q place → place < length slice
 taken_within xs slice now q place rising is view there p = (stands slice q place (rising_in slice xs is rising) (ap (λ (zs : List ℕ). is_in zs q) (is ∙ view) ∙ there) p).0
 
--- a number that takes another's place
-still_absent : (xs now : List ℕ) (old new : ℕ) → ((k : ℕ) → is_in xs k ≡ cond (nat_eq k old) false (is_in now k)) → is_in now new ≡ false → is_in xs new ≡ false
-still_absent xs now old new less absent = less new ∙ by (nat_eq new old)
+-- A number that there is room for is put into its place.
+pub inserted_is : (xs ys : List ℕ) (q place : ℕ) (ok : Bool) → ys ≡ (if ok then insert xs place q else xs) → ok ≡ true → ys ≡ insert xs place q
+inserted_is xs ys q place ok is done = is ∙ ap (λ (b : Bool). if b then insert xs place q else xs) done
+
+-- One that isn't there isn't there when another one is taken out.
+pub still_absent : (xs now : List ℕ) (new old : ℕ) → ((k : ℕ) → is_in xs k ≡ cond (nat_eq k old) false (is_in now k)) → is_in now new ≡ false → is_in xs new ≡ false
+still_absent xs now new old less absent = less new ∙ by (nat_eq new old)
   where
     by : (b : Bool) → cond b false (is_in now new) ≡ false
     by true = refl
     by false = absent
-
-pub replaced_rising : (xs ys slice now : List ℕ) (old new place : ℕ) (ok : Bool) → Rising xs → slice ≡ xs → ((k : ℕ) → is_in xs k ≡ cond (nat_eq k old) false (is_in now k)) → is_in now new ≡ false → IsPlace slice new place
-    → ys ≡ (if ok then insert xs place new else xs) → Rising ys
-replaced_rising xs ys slice now old new place true rising is less absent p put = rising_added xs ys new place rising (still_absent xs now old new less absent) (place_in slice xs new place is p) put
-replaced_rising xs ys slice now old new place false rising is less absent p put = subst Rising (sym put) rising
-
-pub replaced_now : (xs ys slice now : List ℕ) (old new place : ℕ) (ok : Bool) → slice ≡ xs → ((k : ℕ) → is_in xs k ≡ cond (nat_eq k old) false (is_in now k)) → IsPlace slice new place → ys ≡ (if ok then insert xs place new else xs) → ok ≡ true
-    → (k : ℕ) → is_in ys k ≡ cond (nat_eq k new) true (cond (nat_eq k old) false (is_in now k))
-replaced_now xs ys slice now old new place true is less p put done k = in_added xs ys new place (place_in slice xs new place is p) put k ∙ ap (cond (nat_eq k new) true) (less k)
-replaced_now xs ys slice now old new place false is less p put done k = absurd (cc done)

@@ -1,3 +1,4 @@
-mod MapLemmas
-mod KeyLemmas
+mod HeldLemmas
 mod IndexLemmas
+mod KeyLemmas
+mod MapLemmas

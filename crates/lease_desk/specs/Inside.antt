@@ -26,7 +26,12 @@ pub record IsPlace (xs : List ℕ) (least place : ℕ) : Type 0 where
   pub before : (k : ℕ) → k < place → get_or xs k 0 < least
   pub behind : (k : ℕ) → place ≤ k → k < length xs → least ≤ get_or xs k 0
 
--- The number of a page among those whose leases have come so far.
+-- Numbers, and for how many there is room.
+pub record Slots : Type 0 where
+  pub numbers : List ℕ
+  pub room : ℕ
+
+-- The number of a page among those that are going, by the rank of its lease's state.
 abbrev pub key : ℕ → ℕ → ℕ
 key rank page = rank * 2 ^ 32 + page
 
@@ -37,9 +42,17 @@ has_rank lease.Held rank = nat_eq rank 0
 has_rank lease.Recalled rank = nat_eq rank 1
 has_rank lease.Releasing rank = nat_eq rank 2
 
+-- Whether a page is among those of a rank: the held ones stand apart from those that are going.
+abbrev pub is_ranked : List ℕ → List ℕ → ℕ → ℕ → Bool
+is_ranked held going rank page = cond (nat_eq rank 0) (is_in held page) (is_in going (key rank page))
+
 -- A page is among those of a state exactly where its lease is in it.
-abbrev pub IsIndexed : Leases → List ℕ → Type 0
-IsIndexed m keys = (rank page : ℕ) → rank < 3 → page < 2 ^ 32 → is_in keys (key rank page) ≡ has_rank (lease_of m page).state rank
+abbrev pub IsIndexed : Leases → List ℕ → List ℕ → Type 0
+IsIndexed m held going = (rank page : ℕ) → rank < 3 → page < 2 ^ 32 → is_ranked held going rank page ≡ has_rank (lease_of m page).state rank
+
+-- Every held page has room among those that are going, too.
+abbrev pub HasRoom : List ℕ → Slots → Type 0
+HasRoom held going = length held + length going.numbers ≤ going.room
 
 -- The least page above `after` whose lease is in the state of a rank, or none up to 2^32 - 1.
 abbrev pub IsNextRanked : Leases → ℕ → ℕ → Option Page → Type 0

@@ -4,9 +4,11 @@ ghost use Rattle.std.specs.FinMap.{empty};
 ghost use Rattle.std.specs.Prelude.{◌≤◌, ◌^◌, ℕ, true, IsSome, nat_eq};
 ghost use Rattle.std.specs.FinMap as map;
 ghost use Rattle.lease_desk.specs.declared.lease.Lease.TheVariants as lease;
-ghost use Rattle.lease_desk.specs.Inside.{has_rank, IsNextRanked, key};
+ghost use Rattle.std.specs.Prelude.{◌+◌, length};
+ghost use Rattle.lease_desk.specs.Inside.{has_rank, is_in, IsNextRanked, key, Slots};
 ghost use Rattle.lease_desk.specs.Desk.{lease_of, granted, recalled, changed, releasing, released, is_ready, IsNext};
 
+use crate::held_pages::HeldPages;
 use crate::key_set::KeySet;
 use crate::lease_map::LeaseMap;
 use crate::{Lease, PageLease};
@@ -19,17 +21,19 @@ use tm_base::{Mem, NoMemory, Page, Stamp};
 /// A call for a page whose state or epoch isn't the one that the call speaks of changes nothing.
 ///
 /// Beside the leases it keeps the pages that are leased by the state of their lease, so that the next page
-/// in a state is found without a walk over the others. Only a grant takes memory: a page that comes into
-/// another state takes its own former place among them.
+/// in a state is found without a walk over the others: those that are held, and apart from these the few that
+/// are going. Only a grant takes memory: with each page that is held there is room for it among those that are
+/// going.
 #[derive(Drop)]
 pub struct Desk {
     leases: LeaseMap,
-    ranked: KeySet,
+    held: HeldPages,
+    going: KeySet,
 }
 
 impl Model for Desk {
     ghost use Rattle.lease_desk.specs.Desk.{Leases, coded_leases};
-    ghost use Rattle.lease_desk.specs.Inside.{IsIndexed};
+    ghost use Rattle.lease_desk.specs.Inside.{HasRoom, IsIndexed};
 
     ghost Value = { Leases };
 
@@ -37,22 +41,33 @@ impl Model for Desk {
 
     ghost view = { λ d. d.leases };
 
-    ghost invariant = { λ d. IsIndexed d.leases d.ranked };
+    ghost invariant = { λ d. IsIndexed d.leases d.held d.going.numbers × HasRoom d.held d.going };
 }
 
-// The ranks of the states, by which the pages that are leased are kept.
-const HELD: u64 = 0;
-
+// The ranks of the states, by which the pages that are going are kept.
 const RECALLED: u64 = 1;
 
 const RELEASING: u64 = 2;
 
-/// The number under which a page is kept with those of a rank.
+/// The number under which a page is kept with those that are going.
 fn key_of(rank: u64, page: u32) -> u64
     requires { rank ≤ 3 }
     ensures { result ≡ key rank page }
 {
     rank * 4294967296 + page as u64
+}
+
+/// How many pages are leased with one more.
+fn one_more(held: usize, going: usize) -> Mem<usize>
+    ensures { IfOk result (λ count. count ≡ held + going + 1) }
+{
+    let Some(count) = held.checked_add(going) else {
+        return Err(NoMemory);
+    };
+    let Some(count) = count.checked_add(1) else {
+        return Err(NoMemory);
+    };
+    Ok(count)
 }
 
 impl Desk {
@@ -62,7 +77,8 @@ impl Desk {
     {
         Desk {
             leases: LeaseMap::new(alloc),
-            ranked: KeySet::new(alloc),
+            held: HeldPages::new(alloc),
+            going: KeySet::new(alloc),
         }
     }
 
@@ -115,8 +131,8 @@ impl Desk {
         match self.state(page) {
             Lease::None => self.begin(page.0, lease)?,
             Lease::Held => self.keep(page.0, lease),
-            Lease::Recalled => self.turn(page.0, lease, RECALLED, HELD),
-            Lease::Releasing => self.turn(page.0, lease, RELEASING, HELD),
+            Lease::Recalled => self.come_back(page.0, lease, RECALLED)?,
+            Lease::Releasing => self.come_back(page.0, lease, RELEASING)?,
         }
         Ok(true)
     }
@@ -134,7 +150,7 @@ impl Desk {
                 state: Lease::Recalled,
                 stamp: lease.stamp,
             };
-            self.turn(page.0, lease, HELD, RECALLED);
+            self.go(page.0, lease);
         }
     }
 
@@ -179,7 +195,7 @@ impl Desk {
                 state: Lease::Releasing,
                 stamp: lease.stamp,
             };
-            self.turn(page.0, lease, RECALLED, RELEASING);
+            self.give_back(page.0, lease);
         }
     }
 
@@ -206,7 +222,7 @@ impl Desk {
         ensures { IsNext self.now state after result }
     {
         if matches!(state, Lease::Held) {
-            return self.next_ranked(HELD, after);
+            return self.next_held(after);
         }
         if matches!(state, Lease::Recalled) {
             return self.next_ranked(RECALLED, after);
@@ -217,12 +233,21 @@ impl Desk {
         self.next_free(after)
     }
 
-    /// The least page above `after` whose lease is in the state of a rank.
+    /// The least page above `after` that is held.
+    fn next_held(&self, after: u32) -> Option<Page>
+        ensures { IsNextRanked self.now 0 after result }
+    {
+        let page = self.held.first_above(after)?;
+        Some(Page(page))
+    }
+
+    /// The least page above `after` that is going, by the rank of its lease's state.
     fn next_ranked(&self, rank: u64, after: u32) -> Option<Page>
-        requires { rank < 3 }
+        requires going { 1 ≤ rank }
+        requires ranks { rank < 3 }
         ensures { IsNextRanked self.now rank after result }
     {
-        let found = self.ranked.first_from(key_of(rank, after) + 1)?;
+        let found = self.going.first_from(key_of(rank, after) + 1)?;
         if found >= key_of(rank + 1, 0) {
             return None;
         }
@@ -250,10 +275,11 @@ impl Desk {
         ensures ok { OnOk result (self.new ≡ map.insert self.old page kept) }
         ensures err { OnErr result (self.new ≡ self.old) }
     {
-        let key = key_of(HELD, page);
-        self.ranked.add(key)?;
+        let count = one_more(self.held.len(), self.going.len())?;
+        self.going.make_room(count)?;
+        self.held.add(page)?;
         if self.leases.put(page, kept).is_err() {
-            self.ranked.remove(key);
+            self.held.remove(page);
             return Err(NoMemory);
         }
         Ok(())
@@ -268,16 +294,40 @@ impl Desk {
         self.leases.set(page, kept);
     }
 
-    /// A leased page comes from the state of one rank into that of another.
-    fn turn(&mut self, page: u32, kept: PageLease, from: u64, to: u64)
-        requires ranks { (from < 3) × (to < 3) }
-        requires old { (rank : ℕ) → has_rank (lease_of self.old page).state rank ≡ nat_eq rank from }
-        requires new { (rank : ℕ) → has_rank kept.state rank ≡ nat_eq rank to }
-        requires other { from ≡ to → ⊥ }
+    /// A held page is recalled.
+    fn go(&mut self, page: u32, kept: PageLease)
+        requires old { (lease_of self.old page).state ≡ lease.Held }
+        requires new { kept.state ≡ lease.Recalled }
         ensures { self.new ≡ map.insert self.old page kept }
     {
-        self.ranked.replace(key_of(from, page), key_of(to, page));
+        self.held.remove(page);
+        self.going.add(key_of(RECALLED, page));
         self.leases.set(page, kept);
+    }
+
+    /// A recalled page is being released.
+    fn give_back(&mut self, page: u32, kept: PageLease)
+        requires old { (lease_of self.old page).state ≡ lease.Recalled }
+        requires new { kept.state ≡ lease.Releasing }
+        ensures { self.new ≡ map.insert self.old page kept }
+    {
+        self.going.remove(key_of(RECALLED, page));
+        self.going.add(key_of(RELEASING, page));
+        self.leases.set(page, kept);
+    }
+
+    /// A page that is going is held again. With want of memory nothing changes.
+    fn come_back(&mut self, page: u32, kept: PageLease, from: u64) -> Mem<()>
+        requires going { (1 ≤ from) × (from < 3) }
+        requires old { (rank : ℕ) → has_rank (lease_of self.old page).state rank ≡ nat_eq rank from }
+        requires new { kept.state ≡ lease.Held }
+        ensures ok { OnOk result (self.new ≡ map.insert self.old page kept) }
+        ensures err { OnErr result (self.new ≡ self.old) }
+    {
+        self.held.add(page)?;
+        self.going.remove(key_of(from, page));
+        self.leases.set(page, kept);
+        Ok(())
     }
 
     /// The lease of a page that is being released is over.
@@ -286,7 +336,7 @@ impl Desk {
         requires new { kept.state ≡ lease.None }
         ensures { self.new ≡ map.insert self.old page kept }
     {
-        self.ranked.remove(key_of(RELEASING, page));
+        self.going.remove(key_of(RELEASING, page));
         self.leases.set(page, kept);
     }
 }

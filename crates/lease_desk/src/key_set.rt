@@ -1,5 +1,5 @@
-//! A set of numbers in ascending order.
-ghost use Rattle.std.specs.Prelude.{◌≡◌, ◌<◌, ◌≤◌, ◌^◌, ℕ, [], OnOk, OnErr, IfSome, IfNone, true, false, cond, nat_eq, length};
+//! A set of numbers in ascending order, with room for more.
+ghost use Rattle.std.specs.Prelude.{◌≡◌, ◌<◌, ◌≤◌, ◌+◌, ◌^◌, ℕ, [], OnOk, IfSome, IfNone, true, false, cond, nat_eq, length};
 ghost use Rattle.std.specs.Prelude.{get_or};
 ghost use Rattle.lease_desk.specs.Inside.{is_in, IsPlace, Rising};
 
@@ -7,20 +7,21 @@ use std::alloc::Global;
 use std::marker::Model;
 use tm_base::Mem;
 
-/// Numbers, each once, in ascending order in one piece of memory: a number is found by halving, and one
-/// that takes another's place takes no memory. Contracts see the list of the numbers.
+/// Numbers, each once, in ascending order in one piece of memory: a number is found by halving. The memory is
+/// taken before it is needed, so that a number that comes later takes none. Contracts see the list of the
+/// numbers, and for how many there is room.
 #[derive(Drop)]
 pub(crate) struct KeySet {
     keys: Vec<u64>,
 }
 
 impl Model for KeySet {
-    ghost use Rattle.std.specs.Prelude.{◌≤◌, List, ℕ, vec_len, vec_capacity};
-    ghost use Rattle.lease_desk.specs.Inside.{Rising};
+    ghost use Rattle.std.specs.Prelude.{◌≤◌, vec_len, vec_capacity};
+    ghost use Rattle.lease_desk.specs.Inside.{Rising, Slots};
 
-    ghost Value = { List ℕ };
+    ghost Value = { Slots };
 
-    ghost view = { λ s. s.keys.items };
+    ghost view = { λ s. record { numbers = s.keys.items; room = vec_capacity s.keys } };
 
     ghost invariant = { λ s. Rising s.keys.items × (vec_len s.keys ≤ vec_capacity s.keys) };
 }
@@ -28,51 +29,61 @@ impl Model for KeySet {
 impl KeySet {
     /// No numbers.
     pub(crate) fn new(alloc: Global) -> KeySet
-        ensures { result ≡ [] }
+        ensures { result.numbers ≡ [] }
     {
         KeySet {
             keys: Vec::new(alloc),
         }
     }
 
-    /// Adds a number. With want of memory nothing changes.
-    pub(crate) fn add(&mut self, key: u64) -> Mem<()>
-        requires { is_in self.old key ≡ false }
-        ensures ok { OnOk result ((k : ℕ) → is_in self.new k ≡ cond (nat_eq k key) true (is_in self.old k)) }
-        ensures err { OnErr result (self.new ≡ self.old) }
+    /// How many numbers there are.
+    pub(crate) fn len(&self) -> usize
+        ensures { result ≡ length self.now.numbers }
     {
-        self.keys.reserve(1)?;
-        let place = place(self.keys.as_slice(), key);
-        self.keys.insert(place, key)?;
+        self.keys.len()
+    }
+
+    /// Takes room for so many numbers.
+    pub(crate) fn make_room(&mut self, count: usize) -> Mem<()>
+        ensures same { self.new.numbers ≡ self.old.numbers }
+        ensures kept { self.old.room ≤ self.new.room }
+        ensures ok { OnOk result (count ≤ self.new.room) }
+    {
+        let len = self.keys.len();
+        if len < count {
+            self.keys.reserve(count - len)?;
+        }
         Ok(())
+    }
+
+    /// Adds a number for which there is room.
+    pub(crate) fn add(&mut self, key: u64)
+        requires absent { is_in self.old.numbers key ≡ false }
+        requires room { length self.old.numbers < self.old.room }
+        ensures there { (k : ℕ) → is_in self.new.numbers k ≡ cond (nat_eq k key) true (is_in self.old.numbers k) }
+        ensures count { length self.new.numbers ≡ length self.old.numbers + 1 }
+        ensures room { self.new.room ≡ self.old.room }
+    {
+        let place = place(self.keys.as_slice(), key);
+        let _ = self.keys.insert(place, key);
     }
 
     /// Takes a number out.
     pub(crate) fn remove(&mut self, key: u64)
-        requires { is_in self.old key ≡ true }
-        ensures { (k : ℕ) → is_in self.new k ≡ cond (nat_eq k key) false (is_in self.old k) }
+        requires { is_in self.old.numbers key ≡ true }
+        ensures gone { (k : ℕ) → is_in self.new.numbers k ≡ cond (nat_eq k key) false (is_in self.old.numbers k) }
+        ensures count { length self.new.numbers + 1 ≡ length self.old.numbers }
+        ensures room { self.new.room ≡ self.old.room }
     {
         let place = place(self.keys.as_slice(), key);
         self.keys.remove(place);
     }
 
-    /// Puts a number in another's place, which takes no memory.
-    pub(crate) fn replace(&mut self, old: u64, new: u64)
-        requires there { is_in self.old old ≡ true }
-        requires absent { is_in self.old new ≡ false }
-        ensures { (k : ℕ) → is_in self.new k ≡ cond (nat_eq k new) true (cond (nat_eq k old) false (is_in self.old k)) }
-    {
-        let from = place(self.keys.as_slice(), old);
-        self.keys.remove(from);
-        let to = place(self.keys.as_slice(), new);
-        let _ = self.keys.insert(to, new);
-    }
-
     /// The least number from `least` on.
     pub(crate) fn first_from(&self, least: u64) -> Option<u64>
-        ensures there { IfSome result (λ key. (least ≤ key) × (is_in self.now key ≡ true)) }
-        ensures first { IfSome result (λ key. (k : ℕ) → least ≤ k → k < key → is_in self.now k ≡ false) }
-        ensures none { IfNone result ((k : ℕ) → least ≤ k → is_in self.now k ≡ false) }
+        ensures there { IfSome result (λ key. (least ≤ key) × (is_in self.now.numbers key ≡ true)) }
+        ensures first { IfSome result (λ key. (k : ℕ) → least ≤ k → k < key → is_in self.now.numbers k ≡ false) }
+        ensures none { IfNone result ((k : ℕ) → least ≤ k → is_in self.now.numbers k ≡ false) }
     {
         let place = place(self.keys.as_slice(), least);
         match self.keys.get(place) {

@@ -7,6 +7,7 @@
 #![tactic(auto)]
 
 mod desk;
+mod held_pages;
 mod key_set;
 mod lease;
 mod lease_map;
