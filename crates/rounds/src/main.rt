@@ -7,6 +7,7 @@
 #![tactic(auto)]
 
 mod codec;
+mod desk;
 mod failure;
 mod locks;
 mod log;

@@ -3,6 +3,7 @@ ghost use Rattle.std.specs.Prelude.{◌≡◌};
 ghost use Rattle.node_messages.specs.Spelling.{message_bytes, IsMessage};
 
 use crate::codec::{read_group, read_image, read_message, write_group, write_image, write_message};
+use crate::desk::{seek, turn};
 use crate::failure::Failure;
 use crate::locks::{ask, release, request};
 use crate::log::{acknowledge, append, fetch};
@@ -31,6 +32,10 @@ pub enum Work {
     Release(u32),
     /// A transaction's fate is asked for, where so many pages are leased.
     Ask(u32),
+    /// The one recalled page is found, of so many that are leased.
+    Seek(u32),
+    /// A page of so many that are leased is recalled, given back and granted again.
+    Turn(u32),
     /// A record of a page is added, after so many.
     AddRecord(u32),
     /// The newest version of a page is read, which so many records make.
@@ -60,6 +65,8 @@ impl Work {
             "request" => Some(Work::Request(number(what)?)),
             "release" => Some(Work::Release(number(what)?)),
             "ask" => Some(Work::Ask(number(what)?)),
+            "seek" => Some(Work::Seek(number(what)?)),
+            "turn" => Some(Work::Turn(number(what)?)),
             "add-record" => Some(Work::AddRecord(number(what)?)),
             "read-page" => Some(Work::ReadPage(number(what)?)),
             "put-rising" => Some(Work::Put(Order::Rising, number(what)?)),
@@ -152,6 +159,8 @@ pub fn done(alloc: Global, work: Work, rounds: u32) -> Result<u64, Failure> {
         Work::Request(pages) => Ok(request(alloc, pages, rounds)? as u64),
         Work::Release(pages) => Ok(release(alloc, pages, rounds)? as u64),
         Work::Ask(pages) => Ok(ask(alloc, pages, rounds)? as u64),
+        Work::Seek(leases) => Ok(seek(alloc, leases, rounds)? as u64),
+        Work::Turn(leases) => Ok(turn(alloc, leases, rounds)? as u64),
         Work::AddRecord(length) => add(alloc, length, rounds),
         Work::ReadPage(length) => read(alloc, length, rounds),
         Work::Put(order, rows) => Ok(put(alloc, order, rows, rounds)? as u64),
