@@ -2,5 +2,6 @@ mod ChainLemmas
 mod HoldLemmas
 mod LogLemmas
 mod PageLemmas
-mod ToldLemmas
 mod WholeLemmas
+mod StartLemmas
+mod ToldLemmas

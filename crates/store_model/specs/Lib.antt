@@ -1,6 +1,10 @@
 pub mod LogFacts
+pub mod LogGoes
+pub mod LogMoves
+pub mod LogStarts
 pub mod LogState
 pub mod LogStep
+pub mod LogTold
 pub mod PageFacts
 pub mod PageReads
 pub mod PageState
