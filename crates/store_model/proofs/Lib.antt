@@ -2,6 +2,9 @@ mod ChainLemmas
 mod HoldLemmas
 mod LogLemmas
 mod PageLemmas
+mod VersionLemmas
 mod WholeLemmas
+mod ReadLemmas
 mod StartLemmas
+mod StateLemmas
 mod ToldLemmas

@@ -9,3 +9,5 @@ pub mod PageFacts
 pub mod PageReads
 pub mod PageState
 pub mod PageStep
+pub mod PageAnswers
+pub mod PageWhole
