@@ -1,5 +1,0 @@
-use Rattle.store_model.proofs.VersionLemmas.{version_stays}
-use Rattle.store_model.proofs.laws.a_version_stays.Goals as goal
-
-pub returns : goal.returns
-returns c = version_stays

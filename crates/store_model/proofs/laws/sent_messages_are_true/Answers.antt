@@ -1,5 +1,0 @@
-use Rattle.store_model.proofs.ToldLemmas.{step_true}
-use Rattle.store_model.proofs.laws.sent_messages_are_true.Goals as goal
-
-pub returns : goal.returns
-returns c = step_true

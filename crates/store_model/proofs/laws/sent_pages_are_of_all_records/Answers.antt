@@ -1,5 +1,0 @@
-use Rattle.store_model.proofs.ReadLemmas.{made_version}
-use Rattle.store_model.proofs.laws.sent_pages_are_of_all_records.Goals as goal
-
-pub returns : goal.returns
-returns c = made_version

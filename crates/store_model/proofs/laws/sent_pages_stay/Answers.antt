@@ -1,5 +1,0 @@
-use Rattle.store_model.proofs.ReadLemmas.{made_more}
-use Rattle.store_model.proofs.laws.sent_pages_stay.Goals as goal
-
-pub returns : goal.returns
-returns c = made_more

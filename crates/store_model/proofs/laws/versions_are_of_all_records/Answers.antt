@@ -1,5 +1,0 @@
-use Rattle.store_model.proofs.ReadLemmas.{version_all}
-use Rattle.store_model.proofs.laws.versions_are_of_all_records.Goals as goal
-
-pub returns : goal.returns
-returns c = version_all
