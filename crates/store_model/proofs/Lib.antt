@@ -1,4 +1,5 @@
 mod ChainLemmas
+mod DoneLemmas
 mod HoldLemmas
 mod LogLemmas
 mod PageLemmas

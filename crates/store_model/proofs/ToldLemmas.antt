@@ -203,6 +203,33 @@ answered_by s from g sealed next None sealed_is open_ numbered_is next_is is =
     ∙ (ap (λ o. (on_numbered s from g (log_of s g.writer.0) o).1) numbered_is
     ∙ ap (λ b. (on_new s from g (log_of s g.writer.0) b (nat_lt (length (log_of s g.writer.0).groups + 1) g.seq)).1) (next_is ∙ is))
 
+-- There is a group to be served from a number on that is held and within the mark.
+some_left : (xs : List Group) (n : ℕ) → n < length xs → (g : Group) × (gs : List Group) × (drop n xs ≡ g ∷ gs)
+some_left [] n h = absurd (omega (arith, h))
+some_left (x ∷ xs) zero h = (x, xs, refl)
+some_left (x ∷ xs) (suc n) h = let less : n < length xs = omega (arith, h) in some_left xs n less
+
+taken_length : (n : ℕ) (xs : List Group) (i : ℕ) → i < n → i < length xs → i < length (take n xs)
+taken_length zero xs i h k = absurd (omega (arith, h))
+taken_length (suc n) [] i h k = absurd (omega (arith, k))
+taken_length (suc n) (x ∷ xs) zero h k = omega arith
+taken_length (suc n) (x ∷ xs) (suc i) h k =
+    let a : i < n = omega (arith, h) in
+    let b : i < length xs = omega (arith, k) in
+    let r : i < length (take n xs) = taken_length n xs i a b in
+    omega (arith, r)
+
+some_servable : (groups : List Group) (first mark : ℕ) → max 1 first ≤ mark → max 1 first ≤ length groups → (g : Group) × (gs : List Group) × (drop (first - 1) (take mark groups) ≡ g ∷ gs)
+some_servable groups first mark marked held = some_left (take mark groups) (first - 1) (taken_length mark groups (first - 1) (below first mark marked) (below first (length groups) held))
+  where
+    below : (n k : ℕ) → max 1 n ≤ k → n - 1 < k
+    below n k h = grind arith
+
+served_some : (s : LogStoreState) (from : Node) (stamp : ℕ) (writer : Writer) (all : List Group) → (g : Group) × (gs : List Group) × (all ≡ g ∷ gs)
+    → (groups : List Group) × ((serves (heard s stamp) from writer (fitting all)).1 ≡ message (heard s stamp) from (note.Groups writer groups) ∷ [])
+served_some s from stamp writer all h =
+    (h.0 ∷ fits false (MAX_BYTES - HEAD_BYTES - group_size h.0) h.1, ap (λ xs. (serves (heard s stamp) from writer (fitting xs)).1) h.2)
+
 open_next : (a b c : Bool) → (a && (not b && c)) ≡ true → (b ≡ false) × (c ≡ true)
 open_next true false c h = (refl, h)
 open_next true true c h = absurd (cc h)
@@ -214,13 +241,17 @@ note_answered s m (note.Append g) is = λ next.
     ap (λ n. (on_note (heard s m.stamp.0) m.from n).1) is
     ∙ answered_by (heard s m.stamp.0) m.from g (log_of s g.writer.0).is_sealed (nat_eq g.seq (length (log_of s g.writer.0).groups + 1)) (numbered (log_of s g.writer.0).groups g.seq) refl both.0 refl refl both.1
 note_answered s m (note.Seal writer) is = ap (λ n. (on_note (heard s m.stamp.0) m.from n).1) is
+note_answered s m (note.Fetch writer first) is = λ marked held.
+    let all : List Group = servable (log_of s writer.0) first in
+    let k = served_some s m.from m.stamp.0 writer all (some_servable (log_of s writer.0).groups first (log_of s writer.0).mark marked held) in
+    (k.0, ap (λ n. (on_note (heard s m.stamp.0) m.from n).1) is ∙ k.1)
 note_answered s m n is = tt
 
 pub step_answered : (s : LogStoreState) (m : Message) → IsAnswered s m m.note
 step_answered s m = note_answered s m m.note refl
 
-pub tick_told : (s : LogStoreState) → AllByRecursion (AsksRoster (ticked s).0) (ticked s).1
-tick_told s = (record { sender = refl; receiver = refl; stamp = refl; note = refl }, tt)
+pub tick_told : (s : LogStoreState) → AsksRoster s
+tick_told s = refl
 
 -- ---- ever after
 

@@ -6,6 +6,7 @@ pub mod LogState
 pub mod LogStep
 pub mod LogTold
 pub mod PageFacts
+pub mod PageMoves
 pub mod PageReads
 pub mod PageState
 pub mod PageStep

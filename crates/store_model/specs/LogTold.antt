@@ -9,7 +9,7 @@ use Rattle.tm_base.specs.declared.message.Node.TheVariants.{LogStore, LockManage
 use Rattle.tm_base.specs.declared.message.Note.{Note}
 use Rattle.tm_base.specs.declared.message.Note.TheVariants as note
 use Rattle.store_model.specs.LogState.{Log, LogStoreState, log_of, numbered}
-use Rattle.store_model.specs.LogStep.{MAX_BYTES, HEAD_BYTES, same_group, stepped}
+use Rattle.store_model.specs.LogStep.{MAX_BYTES, HEAD_BYTES, same_group, stepped, ticked}
 use Rattle.store_model.specs.LogFacts.{IsSealedWith}
 use Rattle.store_model.specs.LogMoves.{is_next}
 
@@ -46,7 +46,8 @@ pub record MessageIs (s : LogStoreState) (from : Node) (cause : Note) (m : Messa
   pub stamp : m.stamp.0 ≡ s.scalar
   pub note : NoteIs s cause m.note
 
--- The next group of an open list is acknowledged, and a seal is answered by the length.
+-- The next group of an open list is acknowledged, a seal is answered by the length, and
+-- who asks for groups from a number on that is held and within the mark is sent some.
 abbrev pub IsAnswered : LogStoreState → Message → Note → Type 0
 IsAnswered s m (note.Append g) =
     is_next g.writer.0 (log_of s g.writer.0) g ≡ true
@@ -54,14 +55,17 @@ IsAnswered s m (note.Append g) =
 IsAnswered s m (note.Seal writer) =
     (stepped s m).1
     ≡ record { from = LogStore s.number; to = m.from; stamp = record { 0 = max s.scalar m.stamp.0 }; note = note.SealedAt writer (length (log_of s writer.0).groups) } ∷ []
+IsAnswered s m (note.Fetch writer first) =
+    max 1 first ≤ (log_of s writer.0).mark
+    → max 1 first ≤ length (log_of s writer.0).groups
+    → (groups : List Group)
+    × ((stepped s m).1
+    ≡ record { from = LogStore s.number; to = m.from; stamp = record { 0 = max s.scalar m.stamp.0 }; note = note.Groups writer groups } ∷ [])
 IsAnswered s m other = Unit {0}
 
--- On a tick the lock manager is asked for the roster.
-pub record AsksRoster (s : LogStoreState) (m : Message) : Type 0 where
-  pub sender : m.from ≡ LogStore s.number
-  pub receiver : m.to ≡ LockManager
-  pub stamp : m.stamp.0 ≡ s.scalar
-  pub note : m.note ≡ note.Want None
+-- On a tick the lock manager is asked for the roster, and nothing else is sent.
+abbrev pub AsksRoster : LogStoreState → Type 0
+AsksRoster s = (ticked s).1 ≡ record { from = LogStore s.number; to = LockManager; stamp = record { 0 = s.scalar }; note = note.Want None } ∷ []
 
 -- ---- ever after
 

@@ -66,15 +66,16 @@ pub fn sent_messages_say_what_is()
     ensures { (s : LogStoreState) (m : Message) → AllByRecursion (MessageIs (stepped s m).0 m.from m.note) (stepped s m).1 }
 {}
 
-/// The next group of an open list is acknowledged in that step, and a seal is answered by the length.
-/// Refused is a store that sends nothing.
+/// The next group of an open list is acknowledged in that step, a seal is answered by the length, and who asks
+/// for groups that are held and within the mark is sent some. Refused is a store that sends nothing.
 pub fn next_groups_are_acknowledged()
     ensures { (s : LogStoreState) (m : Message) → IsAnswered s m m.note }
 {}
 
-/// On a tick the lock manager is asked for the roster. Refused is a question to another node.
+/// On a tick the lock manager is asked for the roster, and nothing else is sent. Refused is a question to
+/// another node.
 pub fn ticks_ask_for_the_roster()
-    ensures { (s : LogStoreState) → AllByRecursion (AsksRoster (ticked s).0) (ticked s).1 }
+    ensures { (s : LogStoreState) → AsksRoster s }
 {}
 
 /// So each is true in the form that stays, where the marks are of groups that are on every log store.

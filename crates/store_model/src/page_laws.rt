@@ -8,6 +8,7 @@ ghost use Rattle.tm_data.specs.declared.log.Group.{Group};
 ghost use Rattle.tm_base.specs.declared.message.Message.{Message};
 ghost use Rattle.store_model.specs.LogGoes.{IsFront};
 ghost use Rattle.store_model.specs.PageState.{PageStoreState, is_own, next_of, start};
+ghost use Rattle.store_model.specs.PageMoves.{IsDone, RosterIs};
 ghost use Rattle.store_model.specs.PageStep.{stepped, ticked};
 ghost use Rattle.store_model.specs.PageReads.{of_fault, read_at, read_version};
 ghost use Rattle.store_model.specs.PageAnswers.{AreJoined, IsLevel, PageIsSo, PageMessageIs, ReadIs, WasMade};
@@ -54,6 +55,18 @@ pub fn a_tick_keeps_it_whole()
         → ((page : ℕ) → AreApart logs page)
         → IsWhole logs s
         → IsWhole logs (ticked s).0 }
+{}
+
+/// A roster counts unless it is older than the last one, by the message's own fields; no other message changes
+/// it. Refused are an older roster that counts, and entries that are added to the last one's.
+pub fn rosters_count()
+    ensures { (s : PageStoreState) (m : Message) → RosterIs s m m.note (stepped s m).0 }
+{}
+
+/// The next group of a listed writer is taken where it comes first, and a page that there is is sent to who asked.
+/// Refused are a store that takes nothing, and one that sends nothing.
+pub fn next_groups_are_taken()
+    ensures { (s : PageStoreState) (m : Message) → IsDone s m m.note }
 {}
 
 /// And with a part of a group that was kept and is taken again at a start, if it is the writer's next. Refused is
