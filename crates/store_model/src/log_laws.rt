@@ -126,7 +126,7 @@ pub fn a_start_goes()
     ensures { (s t : LogStoreState) → IsSame s t → Goes s t }
 {}
 
-/// At the start a store has nothing but what is of the writers' logs. Refused is a start with a mark.
+/// At the start a store has nothing but what is of the writers' logs. Refused is a log that begins with a mark.
 pub fn a_start_is_of_the_logs()
     ensures { (logs : ℕ → List Group) (hard : ℕ → ℕ) (number : ℕ) → IsOf logs hard (start number) }
 {}

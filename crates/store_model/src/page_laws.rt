@@ -33,7 +33,7 @@ pub fn pages_are_whole()
     ensures { PagesAreWhole }
 {}
 
-/// A page store that has heard nothing is whole. Refused is a start with records that no group has.
+/// A page store that has heard nothing is whole. Refused is a first group of number 0.
 pub fn a_start_is_whole()
     ensures { (logs : ℕ → List Group) (number stores : ℕ) → IsWhole logs (start number stores) }
 {}
@@ -128,8 +128,8 @@ pub fn no_record_is_missing()
         → ⊥ }
 {}
 
-/// A version that some of a page's records give is the one that all of them give. Refused is an order of the
-/// records that isn't that of their stamps.
+/// A version that some of a page's records give is the one that all of them give. It speaks of versions alone:
+/// refused is one that takes the newest record for a missing one.
 pub fn a_version_stays()
     ensures { (page : Page) (all part : List Link) (stamp : ℕ) (image : Image)
         → Falls all
@@ -166,8 +166,8 @@ pub fn sent_pages_stay()
         → PageIsSo new_logs n }
 {}
 
-/// And such a page is the version by all records of the page that there are. Refused is an order of the records
-/// that isn't that of their stamps.
+/// And such a page is the version by all records of the page that there are. Refused is what the law on versions
+/// refuses.
 pub fn sent_pages_are_of_all_records()
     ensures { (logs : ℕ → List Group) (image : Image) (links : List Link)
         → WasMade logs image
