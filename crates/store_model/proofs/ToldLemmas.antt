@@ -1,5 +1,5 @@
 -- What a log store sends is so, and stays so.
-use Rattle.std.proofs.Common.{◌≡◌, ◌≤◌, ◌<◌, ◌+◌, ◌-◌, ℕ, suc, zero, Bool, true, false, cond, not, ◌&&◌, ◌||◌, nat_eq, nat_le, nat_lt, max, List, [], ◌∷◌, ◌++◌, length, take, drop, slice_get, sum_by, Option, Some, None, inl, inr, refl, sym, subst, ap, ◌∙◌, arith}
+use Rattle.std.proofs.Common.{◌≡◌, ◌≤◌, ◌<◌, ◌+◌, ◌-◌, ℕ, suc, zero, Bool, true, false, cond, ◌||◌, nat_eq, nat_le, nat_lt, max, List, [], ◌∷◌, ◌++◌, length, take, drop, slice_get, sum_by, Option, Some, None, inl, inr, refl, sym, subst, ap, ◌∙◌, arith}
 use Rattle.std.proofs.lemmas.Bool.Decides.{nat_tests}
 use Rattle.std.specs.List.{AllByRecursion}
 use Rattle.std.proofs.lemmas.List.Sums.{sum_by-cons}
@@ -15,8 +15,8 @@ use Rattle.store_model.specs.LogState.{Log, LogStoreState, start, log_in, log_of
 use Rattle.store_model.specs.LogStep.{Effect, MAX_BYTES, HEAD_BYTES, heard, message, stepped, ticked, on_append, on_held, on_new, on_numbered, on_unsealed, on_note, serves, fits, fits_if, fitting, servable, with_group, with_seal, same_group}
 use Rattle.store_model.specs.LogFacts.{LogInput, Hears, Ticks, taken, run, IsSealedWith, Names, NamesIn}
 use Rattle.store_model.specs.LogGoes.{Goes, IsFront, LogGoes}
-use Rattle.store_model.specs.LogTold.{AreServed, AsksRoster, HasGroup, IsAnswered, IsWithin, MessageFact, MessageIs, NoteFact, NoteIs, WereServed}
-use Rattle.store_model.proofs.LogLemmas.{log_there, not_held, sealed_from}
+use Rattle.store_model.specs.LogTold.{AppendAnswered, AreServed, AsksRoster, HasGroup, IsAnswered, IsWithin, MessageFact, MessageIs, NoteFact, NoteIs, WereServed}
+use Rattle.store_model.proofs.LogLemmas.{log_there, sealed_from}
 
 -- ---- groups that are served
 
@@ -193,15 +193,56 @@ step_told s m = note_told (heard s m.stamp.0) m.from m.note
 
 -- ---- what is answered in any case
 
-answered_by : (s : LogStoreState) (from : Node) (g : Group) (sealed next : Bool) (o : Option Group) → (log_of s g.writer.0).is_sealed ≡ sealed → sealed ≡ false
-    → numbered (log_of s g.writer.0).groups g.seq ≡ o → (nat_eq g.seq (length (log_of s g.writer.0).groups + 1) ≡ next) → next ≡ true
-    → (on_append s from g).1 ≡ message s from (note.Ack g.writer g.seq) ∷ []
-answered_by s from g sealed next (Some held) sealed_is open_ numbered_is next_is is =
-    absurd (cc (not_held (log_of s g.writer.0).groups g.seq held numbered_is, next_is, is))
-answered_by s from g sealed next None sealed_is open_ numbered_is next_is is =
-    ap (λ b. (on_unsealed s from g (log_of s g.writer.0) b).1) (sealed_is ∙ open_)
-    ∙ (ap (λ o. (on_numbered s from g (log_of s g.writer.0) o).1) numbered_is
-    ∙ ap (λ b. (on_new s from g (log_of s g.writer.0) b (nat_lt (length (log_of s g.writer.0).groups + 1) g.seq)).1) (next_is ∙ is))
+past_none : (xs : List Group) (i : ℕ) → length xs ≤ i → slice_get xs i ≡ None
+past_none [] i h = refl
+past_none (x ∷ xs) zero h = absurd (omega (arith, h))
+past_none (x ∷ xs) (suc i) h = let rest : length xs ≤ i = omega (arith, h) in past_none xs i rest
+
+-- No group is held of a number past the last one.
+none_past : (groups : List Group) (seq : ℕ) → length groups < seq → numbered groups seq ≡ None
+none_past groups seq h = by (nat_eq seq 0)
+  where
+    less : (n l : ℕ) → l < n → l ≤ n - 1
+    less n l h = grind arith
+
+    by : (b : Bool) → cond b None (slice_get groups (seq - 1)) ≡ None
+    by true = refl
+    by false = past_none groups (seq - 1) (less seq (length groups) h)
+
+answer_open : (s : LogStoreState) (from : Node) (g : Group) (o : Option Group) → (log_of s g.writer.0).is_sealed ≡ false → numbered (log_of s g.writer.0).groups g.seq ≡ o
+    → (on_append s from g).1 ≡ (on_numbered s from g (log_of s g.writer.0) o).1
+answer_open s from g o open_ is =
+    ap (λ b. (on_unsealed s from g (log_of s g.writer.0) b).1) open_ ∙ ap (λ o. (on_numbered s from g (log_of s g.writer.0) o).1) is
+
+next_true : (a b : ℕ) → a ≡ b → nat_eq a b ≡ true
+next_true a b h = grind (arith, nat_tests)
+
+above_false : (a b : ℕ) → b < a → nat_eq a b ≡ false
+above_false a b h = grind (arith, nat_tests)
+
+above_true : (a b : ℕ) → b < a → nat_lt b a ≡ true
+above_true a b h = grind (arith, nat_tests)
+
+append_answered : (s : LogStoreState) (m : Message) (g : Group) → m.note ≡ note.Append g → AppendAnswered s m g (log_of s g.writer.0)
+append_answered s m g is =
+    let h : LogStoreState = heard s m.stamp.0 in
+    let log : Log = log_of s g.writer.0 in
+    let step : (stepped s m).1 ≡ (on_append h m.from g).1 = ap (λ n. (on_note h m.from n).1) is in
+    record {
+      sealed = λ sealed. step ∙ ap (λ b. (on_unsealed h m.from g log b).1) sealed;
+      next = λ open_ at.
+          let past : length log.groups < g.seq = omega (arith, at) in
+          step
+          ∙ (answer_open h m.from g None open_ (none_past log.groups g.seq past)
+          ∙ ap (λ b. (on_new h m.from g log b (nat_lt (length log.groups + 1) g.seq)).1) (next_true g.seq (length log.groups + 1) at));
+      held = λ open_ x at same. step ∙ (answer_open h m.from g (Some x) open_ at ∙ ap (λ b. (on_held h m.from g b).1) same);
+      above = λ open_ more.
+          let past : length log.groups < g.seq = omega (arith, more) in
+          step
+          ∙ (answer_open h m.from g None open_ (none_past log.groups g.seq past)
+          ∙ (ap (λ b. (on_new h m.from g log b (nat_lt (length log.groups + 1) g.seq)).1) (above_false g.seq (length log.groups + 1) more)
+          ∙ ap (λ b. (on_new h m.from g log false b).1) (above_true g.seq (length log.groups + 1) more)));
+    }
 
 -- There is a group to be served from a number on that is held and within the mark.
 some_left : (xs : List Group) (n : ℕ) → n < length xs → (g : Group) × (gs : List Group) × (drop n xs ≡ g ∷ gs)
@@ -230,16 +271,8 @@ served_some : (s : LogStoreState) (from : Node) (stamp : ℕ) (writer : Writer) 
 served_some s from stamp writer all h =
     (h.0 ∷ fits false (MAX_BYTES - HEAD_BYTES - group_size h.0) h.1, ap (λ xs. (serves (heard s stamp) from writer (fitting xs)).1) h.2)
 
-open_next : (a b c : Bool) → (a && (not b && c)) ≡ true → (b ≡ false) × (c ≡ true)
-open_next true false c h = (refl, h)
-open_next true true c h = absurd (cc h)
-open_next false b c h = absurd (cc h)
-
 note_answered : (s : LogStoreState) (m : Message) (n : Note) → m.note ≡ n → IsAnswered s m n
-note_answered s m (note.Append g) is = λ next.
-    let both = open_next (nat_eq g.writer.0 g.writer.0) (log_of s g.writer.0).is_sealed (nat_eq g.seq (length (log_of s g.writer.0).groups + 1)) next in
-    ap (λ n. (on_note (heard s m.stamp.0) m.from n).1) is
-    ∙ answered_by (heard s m.stamp.0) m.from g (log_of s g.writer.0).is_sealed (nat_eq g.seq (length (log_of s g.writer.0).groups + 1)) (numbered (log_of s g.writer.0).groups g.seq) refl both.0 refl refl both.1
+note_answered s m (note.Append g) is = append_answered s m g is
 note_answered s m (note.Seal writer) is = ap (λ n. (on_note (heard s m.stamp.0) m.from n).1) is
 note_answered s m (note.Fetch writer first) is = λ marked held.
     let all : List Group = servable (log_of s writer.0) first in

@@ -1,5 +1,5 @@
 -- What the messages of a log store say.
-use Rattle.std.specs.Prelude.{◌≡◌, ◌<◌, ◌≤◌, ◌⊎◌, ℕ, ◌+◌, List, [], ◌∷◌, length, true, slice_get, max, sum_by}
+use Rattle.std.specs.Prelude.{◌≡◌, ◌<◌, ◌≤◌, ◌⊎◌, ℕ, ◌+◌, List, [], ◌∷◌, length, true, false, slice_get, max, sum_by}
 use Rattle.std.specs.declared.option.Option.TheVariants.{None, Some}
 use Rattle.tm_data.specs.declared.log.Group.{Group}
 use Rattle.tm_base.specs.GroupSizes.{group_size}
@@ -11,7 +11,6 @@ use Rattle.tm_base.specs.declared.message.Note.TheVariants as note
 use Rattle.store_model.specs.LogState.{Log, LogStoreState, log_of, numbered}
 use Rattle.store_model.specs.LogStep.{MAX_BYTES, HEAD_BYTES, same_group, stepped, ticked}
 use Rattle.store_model.specs.LogFacts.{IsSealedWith}
-use Rattle.store_model.specs.LogMoves.{is_next}
 
 -- ---- right after the step that sends a message
 
@@ -46,21 +45,26 @@ pub record MessageIs (s : LogStoreState) (from : Node) (cause : Note) (m : Messa
   pub stamp : m.stamp.0 ≡ s.scalar
   pub note : NoteIs s cause m.note
 
--- The next group of an open list is acknowledged, a seal is answered by the length, and
--- who asks for groups from a number on that is held and within the mark is sent some.
+-- The answer to a message, with the scalar that has heard it.
+abbrev pub reply : LogStoreState → Message → Note → List Message
+reply s m said = record { from = LogStore s.number; to = m.from; stamp = record { 0 = max s.scalar m.stamp.0 }; note = said } ∷ []
+
+-- How an append is answered. Of a group that is held and another one, nothing is said.
+pub record AppendAnswered (s : LogStoreState) (m : Message) (g : Group) (log : Log) : Type 0 where
+  pub sealed : log.is_sealed ≡ true → (stepped s m).1 ≡ reply s m (note.Sealed g.writer (length log.groups))
+  pub next : log.is_sealed ≡ false → g.seq ≡ length log.groups + 1 → (stepped s m).1 ≡ reply s m (note.Ack g.writer g.seq)
+  pub held : log.is_sealed ≡ false → (h : Group) → numbered log.groups g.seq ≡ Some h → same_group h g ≡ true → (stepped s m).1 ≡ reply s m (note.Ack g.writer g.seq)
+  pub above : log.is_sealed ≡ false → length log.groups + 1 < g.seq → (stepped s m).1 ≡ reply s m (note.Gap g.writer (length log.groups + 1))
+
+-- What is answered in any case: an append as above, a seal by the length; and who asks for groups from a number on that is
+-- held and within the mark is sent some.
 abbrev pub IsAnswered : LogStoreState → Message → Note → Type 0
-IsAnswered s m (note.Append g) =
-    is_next g.writer.0 (log_of s g.writer.0) g ≡ true
-    → (stepped s m).1 ≡ record { from = LogStore s.number; to = m.from; stamp = record { 0 = max s.scalar m.stamp.0 }; note = note.Ack g.writer g.seq } ∷ []
-IsAnswered s m (note.Seal writer) =
-    (stepped s m).1
-    ≡ record { from = LogStore s.number; to = m.from; stamp = record { 0 = max s.scalar m.stamp.0 }; note = note.SealedAt writer (length (log_of s writer.0).groups) } ∷ []
+IsAnswered s m (note.Append g) = AppendAnswered s m g (log_of s g.writer.0)
+IsAnswered s m (note.Seal writer) = (stepped s m).1 ≡ reply s m (note.SealedAt writer (length (log_of s writer.0).groups))
 IsAnswered s m (note.Fetch writer first) =
     max 1 first ≤ (log_of s writer.0).mark
     → max 1 first ≤ length (log_of s writer.0).groups
-    → (groups : List Group)
-    × ((stepped s m).1
-    ≡ record { from = LogStore s.number; to = m.from; stamp = record { 0 = max s.scalar m.stamp.0 }; note = note.Groups writer groups } ∷ [])
+    → (groups : List Group) × ((stepped s m).1 ≡ reply s m (note.Groups writer groups))
 IsAnswered s m other = Unit {0}
 
 -- On a tick the lock manager is asked for the roster, and nothing else is sent.

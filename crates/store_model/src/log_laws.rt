@@ -66,9 +66,10 @@ pub fn sent_messages_say_what_is()
     ensures { (s : LogStoreState) (m : Message) → AllByRecursion (MessageIs (stepped s m).0 m.from m.note) (stepped s m).1 }
 {}
 
-/// The next group of an open list is acknowledged in that step, a seal is answered by the length, and who asks
-/// for groups that are held and within the mark is sent some. Refused is a store that sends nothing.
-pub fn next_groups_are_acknowledged()
+/// The next group of an open list is acknowledged in that step, and so is one that is held and the same; of one
+/// above the next, the next is asked for; an append to a sealed list and a seal are answered by the length; and
+/// who asks for groups that are held and within the mark is sent some. Refused is a store that sends nothing.
+pub fn messages_are_answered()
     ensures { (s : LogStoreState) (m : Message) → IsAnswered s m m.note }
 {}
 
