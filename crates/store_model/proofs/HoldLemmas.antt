@@ -11,9 +11,9 @@ use Rattle.page_model.specs.Versions.{Held, added, held, link_of, links_of, or_n
 use Rattle.page_model.specs.declared.link.Link.{Link}
 use Rattle.store_model.specs.PageState.{is_of}
 use Rattle.store_model.specs.PageStep.{brought, is_kept, is_on, links_in, with_link, with_links}
-use Rattle.store_model.specs.PageFacts.{Among, Falls, IsHistory, IsIn}
+use Rattle.store_model.specs.PageFacts.{Among, AreApart, Falls, IsChange, IsIn}
 use Rattle.store_model.proofs.PageLemmas.{get_same, get_other, same_number, other_number}
-use Rattle.store_model.proofs.ChainLemmas.{among_added, added_has, added_keeps, held_there, falls_prev, falls_once, falls_added}
+use Rattle.store_model.proofs.ChainLemmas.{among_added, added_has, added_keeps, held_there, falls_added}
 
 -- ---- one link is taken
 
@@ -51,16 +51,89 @@ link_step pages new q = by (held (links_of pages (changed_page new.change)) new.
         let there : Among old (links_of pages (changed_page new.change)) × (old.stamp.0 ≡ new.stamp.0) = held_there (links_of pages (changed_page new.change)) new.stamp.0 old some in
         inl (ap (λ x. links_of x q) (again_stays pages (same_link old new)), λ e. (old, (subst (λ n. Among old (links_of pages n)) e there.0, there.1)))
 
+-- A link that is held was held, or is one of those that were taken.
+pub among_links : (ls : List Link) (pages : Held) (q : ℕ) (m : Link) → Among m (links_of (with_links pages ls) q) → Among m (links_of pages q) ⊎ (Among m ls × (changed_page m.change ≡ q))
+among_links [] pages q m a = inl a
+among_links (l ∷ ls) pages q m a = by (among_links ls (with_link pages l) q m a)
+  where
+    here : (xs : List Link) → Stays pages l q xs ⊎ Adds pages l q xs → Among m xs → Among m (links_of pages q) ⊎ (Among m (l ∷ ls) × (changed_page m.change ≡ q))
+    here xs (inl stays) b = inl (subst (Among m) stays.0 b)
+    here xs (inr adds) b = or_new (among_added (links_of pages q) l m (subst (Among m) adds.0 b))
+      where
+        or_new : (m ≡ l) ⊎ Among m (links_of pages q) → Among m (links_of pages q) ⊎ (Among m (l ∷ ls) × (changed_page m.change ≡ q))
+        or_new (inl same) = inr (inl same, ap (λ (x : Link). changed_page x.change) same ∙ adds.1.1)
+        or_new (inr old) = inl old
+
+    by : Among m (links_of (with_link pages l) q) ⊎ (Among m ls × (changed_page m.change ≡ q)) → Among m (links_of pages q) ⊎ (Among m (l ∷ ls) × (changed_page m.change ≡ q))
+    by (inl b) = here (links_of (with_link pages l) q) (link_step pages l q) b
+    by (inr b) = inr (inr b.0, b.1)
+
+-- What groups bring of a page.
+pub record IsBrought (number stores q : ℕ) (gs : List Group) (l : Link) : Type 0 where
+  pub group : Group
+  pub change : Record
+  pub there : Among group gs
+  pub among : Among change group.records
+  pub on : page_of change ≡ Some q
+  pub own : is_of number stores q ≡ true
+  pub same : l ≡ link_of group.writer.0 group.stamp.0 change
+
+in_record : (number stores q writer stamp : ℕ) (rs : List Record) (l : Link) → Among l (links_in number stores writer stamp rs) → changed_page l.change ≡ q
+    → (r : Record) × Among r rs × (page_of r ≡ Some q) × (is_of number stores q ≡ true) × (l ≡ link_of writer stamp r)
+in_record number stores q writer stamp [] l a at = absurd a
+in_record number stores q writer stamp (x ∷ xs) l a at =
+    by (is_kept number stores stamp x) refl a (λ b. let r = in_record number stores q writer stamp xs l b at in (r.0, inr r.1, r.2, r.3, r.4))
+  where
+    kept : (o : Option ℕ) (c : Bool) → (is_on number stores o && c) ≡ true → unwrap_or o 0 ≡ q → (o ≡ Some q) × (is_of number stores q ≡ true)
+    kept None c h e = absurd (cc h)
+    kept (Some p) c h e = (ap Some e, subst (λ n. is_of number stores n ≡ true) e (first (is_of number stores p) c h))
+      where
+        first : (a b : Bool) → (a && b) ≡ true → a ≡ true
+        first true b h = refl
+        first false b h = absurd (cc h)
+
+    by : (b : Bool) → is_kept number stores stamp x ≡ b → Among l (cond b (link_of writer stamp x ∷ links_in number stores writer stamp xs) (links_in number stores writer stamp xs))
+        → (Among l (links_in number stores writer stamp xs) → (r : Record) × Among r (x ∷ xs) × (page_of r ≡ Some q) × (is_of number stores q ≡ true) × (l ≡ link_of writer stamp r))
+        → (r : Record) × Among r (x ∷ xs) × (page_of r ≡ Some q) × (is_of number stores q ≡ true) × (l ≡ link_of writer stamp r)
+    by true is (inl same) rest =
+        let e : unwrap_or (page_of x) 0 ≡ q = sym (ap (λ (y : Link). changed_page y.change) same) ∙ at in
+        let k = kept (page_of x) (nat_lt (prev_of x) stamp) is e in
+        (x, inl refl, k.0, k.1, same)
+    by true is (inr b) rest = rest b
+    by false is b rest = rest b
+
+pub is_brought : (number stores q : ℕ) (gs : List Group) (l : Link) → Among l (brought number stores gs) → changed_page l.change ≡ q → IsBrought number stores q gs l
+is_brought number stores q [] l a at = absurd a
+is_brought number stores q (g ∷ gs) l a at = by (split (links_in number stores g.writer.0 g.stamp.0 g.records) (brought number stores gs) a) (λ b. is_brought number stores q gs l b at)
+  where
+    split : (xs ys : List Link) → Among l (xs ++ ys) → Among l xs ⊎ Among l ys
+    split [] ys a = inr a
+    split (x ∷ xs) ys (inl is) = inl (inl is)
+    split (x ∷ xs) ys (inr a) = by (split xs ys a)
+      where
+        by : Among l xs ⊎ Among l ys → Among l (x ∷ xs) ⊎ Among l ys
+        by (inl b) = inl (inr b)
+        by (inr b) = inr b
+
+    by : Among l (links_in number stores g.writer.0 g.stamp.0 g.records) ⊎ Among l (brought number stores gs) → (Among l (brought number stores gs) → IsBrought number stores q gs l)
+        → IsBrought number stores q (g ∷ gs) l
+    by (inl b) rest =
+        let r = in_record number stores q g.writer.0 g.stamp.0 g.records l b at in
+        record { group = g; change = r.0; there = inl refl; among = r.1; on = r.2; own = r.3; same = r.4 }
+    by (inr b) rest =
+        let r = rest b in
+        record { group = r.group; change = r.change; there = inr r.there; among = r.among; on = r.on; own = r.own; same = r.same }
+
 -- ---- what is held of a page
 
-module _ (logs : ℕ → List Group) (q : ℕ) (links : List Link) (history : IsHistory logs q links) where
+module _ (logs : ℕ → List Group) (q : ℕ) (apart : AreApart logs q) where
   pub record Holds (pages : Held) : Type 0 where
     pub falls : Falls (links_of pages q)
-    pub sound : (m : Link) → Among m (links_of pages q) → Among m links
+    pub sound : (m : Link) → Among m (links_of pages q) → IsChange logs q m
 
   -- Where it is of the page, it is one of all.
   abbrev pub IsGood : Link → Type 0
-  IsGood l = changed_page l.change ≡ q → Among l links
+  IsGood l = changed_page l.change ≡ q → IsChange logs q l
 
   holds_link : (pages : Held) (new : Link) → Holds pages → IsGood new → Holds (with_link pages new)
   holds_link pages new h good = by (links_of (with_link pages new) q) (link_step pages new q) refl
@@ -71,12 +144,12 @@ module _ (logs : ℕ → List Group) (q : ℕ) (links : List Link) (history : Is
         sound = λ m a. h.sound m (subst (Among m) (is ∙ stays.0) a);
       }
       by ls (inr adds) is = record {
-        falls = subst Falls (sym (is ∙ adds.0)) (falls_added (links_of pages q) new h.falls (falls_prev links history.falls new (good adds.1.1)) adds.1.0);
+        falls = subst Falls (sym (is ∙ adds.0)) (falls_added (links_of pages q) new h.falls (apart.later new (good adds.1.1)) adds.1.0);
         sound = λ m a. or_new m (among_added (links_of pages q) new m (subst (Among m) (is ∙ adds.0) a));
       }
         where
-          or_new : (m : Link) → (m ≡ new) ⊎ Among m (links_of pages q) → Among m links
-          or_new m (inl same) = subst (λ x. Among x links) (sym same) (good adds.1.1)
+          or_new : (m : Link) → (m ≡ new) ⊎ Among m (links_of pages q) → IsChange logs q m
+          or_new m (inl same) = subst (IsChange logs q) (sym same) (good adds.1.1)
           or_new m (inr a) = h.sound m a
 
   keeps_link : (pages : Held) (new m : Link) → Among m (links_of pages q) → Among m (links_of (with_link pages new) q)
@@ -92,7 +165,7 @@ module _ (logs : ℕ → List Group) (q : ℕ) (links : List Link) (history : Is
       by : (ls : List Link) → Stays pages new q ls ⊎ Adds pages new q ls → Among new ls
       by ls (inl stays) =
           let old = stays.1 at in
-          let same : old.0 ≡ new = falls_once links history.falls old.0 new (h.sound old.0 old.1.0) (good at) old.1.1 in
+          let same : old.0 ≡ new = apart.once old.0 new (h.sound old.0 old.1.0) (good at) old.1.1 in
           subst (Among new) (sym stays.0) (subst (λ x. Among x (links_of pages q)) same old.1.0)
       by ls (inr adds) = subst (Among new) (sym adds.0) (added_has (links_of pages q) new)
 
@@ -125,14 +198,14 @@ module _ (logs : ℕ → List Group) (q : ℕ) (links : List Link) (history : Is
       by : (b : Bool) → is_kept number stores g.stamp.0 r ≡ b → AllByRecursion IsGood (links_in number stores g.writer.0 g.stamp.0 rs)
           → AllByRecursion IsGood (cond b (link_of g.writer.0 g.stamp.0 r ∷ links_in number stores g.writer.0 g.stamp.0 rs) (links_in number stores g.writer.0 g.stamp.0 rs))
       by true is rest = (
-        λ at. history.all (link_of g.writer.0 g.stamp.0 r) (record {
+        λ at. record {
           group = g;
           change = r;
           there = there;
           among = sub r (inl refl);
           on = on_page number stores (page_of r) (nat_lt (prev_of r) g.stamp.0) is at;
           same = refl;
-        }),
+        },
         rest,
       )
       by false is rest = rest
@@ -208,8 +281,8 @@ module _ (logs : ℕ → List Group) (q : ℕ) (links : List Link) (history : Is
       has : (r : Record) → Among r g.records → page_of r ≡ Some q → Among (link_of g.writer.0 g.stamp.0 r) (links_of (with_links pages (brought number stores all)) q)
       has r a on =
           let l : Link = link_of g.writer.0 g.stamp.0 r in
-          let there : Among l links = history.all l (record { group = g; change = r; there = ins.0; among = a; on = on; same = refl }) in
-          let later : prev_of r < g.stamp.0 = falls_prev links history.falls l there in
+          let there : IsChange logs q l = record { group = g; change = r; there = ins.0; among = a; on = on; same = refl } in
+          let later : prev_of r < g.stamp.0 = apart.later l there in
           let kept : is_kept number stores g.stamp.0 r ≡ true =
           both_true (is_on number stores (page_of r)) (nat_lt (prev_of r) g.stamp.0) (ap (is_on number stores) on ∙ own) (less_true (prev_of r) g.stamp.0 later) in
           has_links (brought number stores all) pages h (brought_good number stores all goods) l

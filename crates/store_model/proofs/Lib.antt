@@ -1,6 +1,11 @@
 mod ChainLemmas
+mod DoneLemmas
 mod HoldLemmas
 mod LogLemmas
 mod PageLemmas
-mod ToldLemmas
+mod VersionLemmas
 mod WholeLemmas
+mod ReadLemmas
+mod StartLemmas
+mod StateLemmas
+mod ToldLemmas

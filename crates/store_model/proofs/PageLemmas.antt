@@ -81,7 +81,7 @@ front_append f [] hs = refl
 front_append f (g ∷ gs) hs = front_append (Some (front_of g)) gs hs
 
 -- After some groups the front doesn't depend on the one before.
-front_fresh : (hs : List Group) (f : Front) (before : Option Front) → front_after None hs ≡ Some f → front_after before hs ≡ Some f
+pub front_fresh : (hs : List Group) (f : Front) (before : Option Front) → front_after None hs ≡ Some f → front_after before hs ≡ Some f
 front_fresh [] f before h = absurd (cc h)
 front_fresh (g ∷ gs) f before h = h
 
@@ -93,13 +93,13 @@ pub none_next : (gs : List Group) → front_after None gs ≡ None → gs ≡ []
 none_next [] h = refl
 none_next (g ∷ gs) h = absurd (some_front (front_of g) gs h)
 
-next_number : (writer next : ℕ) (f : Option Front) (gs : List Group) → next_after f ≡ next → NumberedFrom writer next gs → next_after (front_after f gs) ≡ next + length gs
+pub next_number : (writer next : ℕ) (f : Option Front) (gs : List Group) → next_after f ≡ next → NumberedFrom writer next gs → next_after (front_after f gs) ≡ next + length gs
 next_number writer next f [] is h = let e : next ≡ next + 0 = omega arith in is ∙ e
 next_number writer next f (g ∷ gs) is h =
     let e : next + 1 + length gs ≡ next + suc (length gs) = omega arith in
     next_number writer (next + 1) (Some (front_of g)) gs (ap (λ n. n + 1) h.1.0) h.1.1 ∙ e
 
-last_is : (e : RosterEntry) (f : Option Front) (gs : List Group) → stamp_or_start e (front_after f gs) ≡ last_stamp (stamp_or_start e f) gs
+pub last_is : (e : RosterEntry) (f : Option Front) (gs : List Group) → stamp_or_start e (front_after f gs) ≡ last_stamp (stamp_or_start e f) gs
 last_is e f [] = refl
 last_is e f (g ∷ gs) = last_is e (Some (front_of g)) gs
 

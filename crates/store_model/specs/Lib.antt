@@ -1,7 +1,14 @@
 pub mod LogFacts
+pub mod LogGoes
+pub mod LogMoves
+pub mod LogStarts
 pub mod LogState
 pub mod LogStep
+pub mod LogTold
 pub mod PageFacts
+pub mod PageMoves
 pub mod PageReads
 pub mod PageState
 pub mod PageStep
+pub mod PageAnswers
+pub mod PageWhole

@@ -1,14 +1,12 @@
 -- What is true of every run of a log store.
-use Rattle.std.specs.Prelude.{◌≡◌, ◌⊎◌, ◌+◌, ◌≤◌, ℕ, List, [], ◌∷◌, ◌++◌, length, take, drop, slice_get, true, sum_by}
-use Rattle.std.specs.List.{AllByRecursion}
+use Rattle.std.specs.Prelude.{◌≡◌, ◌⊎◌, ◌+◌, ℕ, List, [], ◌∷◌, ◌++◌, length, slice_get, true}
 use Rattle.std.specs.declared.option.Option.TheVariants.{Some}
 use Rattle.tm_data.specs.declared.log.Group.{Group}
-use Rattle.tm_base.specs.GroupSizes.{group_size}
 use Rattle.tm_base.specs.declared.message.Message.{Message}
 use Rattle.tm_base.specs.declared.message.Note.{Note}
 use Rattle.tm_base.specs.declared.message.Note.TheVariants as note
-use Rattle.store_model.specs.LogState.{Log, LogStoreState, start, log_of, numbered}
-use Rattle.store_model.specs.LogStep.{Effect, MAX_BYTES, HEAD_BYTES, stepped, ticked}
+use Rattle.store_model.specs.LogState.{Log, LogStoreState, start, log_of}
+use Rattle.store_model.specs.LogStep.{Effect, stepped, ticked}
 
 -- ---- runs
 
@@ -32,47 +30,19 @@ run s (input ∷ inputs) = run (taken s input).0 inputs
 abbrev pub IsLogOf : ℕ → List Group → Type 0
 IsLogOf writer groups = (i : ℕ) (g : Group) → slice_get groups i ≡ Some g → (g.writer.0 ≡ writer) × (g.seq ≡ i + 1)
 
--- ---- what is sent
-
--- These are groups of the log, one after another, of numbers up to the mark.
-abbrev pub IsRunOf : Log → List Group → Type 0
-IsRunOf log groups = (from : ℕ) × (groups ≡ take (length groups) (drop from (take log.mark log.groups)))
-
--- A message of them has at most 1 MiB, or one group.
-abbrev pub IsWithin : List Group → Type 0
-IsWithin groups = (HEAD_BYTES + sum_by group_size groups ≤ MAX_BYTES) ⊎ (length groups ≡ 1)
-
-pub record IsServed (log : Log) (groups : List Group) : Type 0 where
-  pub run_of : IsRunOf log groups
-  pub within : IsWithin groups
-  pub some : 1 ≤ length groups
+pub record Facts (s : LogStoreState) : Type 0 where
+  pub lists : (writer : ℕ) → IsLogOf writer (log_of s writer).groups
 
 -- The log is sealed and has so many groups.
 pub record IsSealedWith (log : Log) (len : ℕ) : Type 0 where
   pub sealed : log.is_sealed ≡ true
   pub long : length log.groups ≡ len
 
--- What a message says of the state after the step that sent it.
-abbrev pub IsTold : LogStoreState → Note → Type 0
-IsTold s (note.Ack writer seq) = (g : Group) × (numbered (log_of s writer.0).groups seq ≡ Some g)
-IsTold s (note.Gap writer next) = next ≡ length (log_of s writer.0).groups + 1
-IsTold s (note.Sealed writer len) = IsSealedWith (log_of s writer.0) len
-IsTold s (note.SealedAt writer len) = IsSealedWith (log_of s writer.0) len
-IsTold s (note.Groups writer groups) = IsServed (log_of s writer.0) groups
-IsTold s said = Unit {0}
-
-abbrev pub AllTold : Effect → Type 0
-AllTold effect = AllByRecursion (λ m. IsTold effect.0 m.note) effect.1
-
 -- ---- the laws
 
 -- The content is one list of groups for each writer, without gaps.
 abbrev pub HasOneListEach : Type 0
 HasOneListEach = (number : ℕ) (inputs : List LogInput) (writer : ℕ) → IsLogOf writer (log_of (run (start number) inputs) writer).groups
-
--- Whatever came before, what a step or a tick sends is so.
-abbrev pub TellsWhatIsHeld : Type 0
-TellsWhatIsHeld = (number : ℕ) (inputs : List LogInput) (input : LogInput) → AllTold (taken (run (start number) inputs) input)
 
 -- A sealed log stays as it is, whatever comes.
 abbrev pub SealedStays : Type 0

@@ -68,7 +68,7 @@ on_append s from group = on_unsealed s from group (log_of s group.writer.0) (log
 
 -- ---- groups are on every log store
 
--- The mark never falls.
+-- Such a word never lowers the mark. A close sets it, also to less.
 abbrev pub with_mark : Log → ℕ → Log
 with_mark log seq = record log { mark = max log.mark seq }
 

@@ -1,5 +1,5 @@
 -- What is true of every run of a page store.
-use Rattle.std.specs.Prelude.{◌≡◌, ◌⊎◌, ◌+◌, ◌≤◌, ◌<◌, ℕ, Bool, true, false, List, [], ◌∷◌, ◌++◌, length, slice_get, nat_eq}
+use Rattle.std.specs.Prelude.{◌≡◌, ◌+◌, ◌≤◌, ◌<◌, ℕ, Bool, true, false, List, [], ◌∷◌, ◌++◌, length, slice_get, nat_eq}
 use Rattle.std.specs.List.{AllByRecursion}
 use Rattle.std.specs.FinMap.{get}
 use Rattle.std.specs.declared.option.Option.{Option}
@@ -123,6 +123,11 @@ pub record IsChange (logs : ℕ → List Group) (page : ℕ) (l : Link) : Type 0
   pub among : Among change group.records
   pub on : page_of change ≡ Some page
   pub same : l ≡ link_of group.writer.0 group.stamp.0 change
+
+-- The records of a page have their stamps to themselves, and each was made on an older version.
+pub record AreApart (logs : ℕ → List Group) (page : ℕ) : Type 0 where
+  pub once : (l m : Link) → IsChange logs page l → IsChange logs page m → l.stamp.0 ≡ m.stamp.0 → l ≡ m
+  pub later : (l : Link) → IsChange logs page l → prev_of l.change < l.stamp.0
 
 -- All records of a page in all groups of all lists, the newest first.
 pub record IsHistory (logs : ℕ → List Group) (page : ℕ) (links : List Link) : Type 0 where

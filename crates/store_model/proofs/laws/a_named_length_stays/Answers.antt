@@ -1,5 +1,0 @@
-use Rattle.store_model.proofs.ToldLemmas.{named_stays}
-use Rattle.store_model.proofs.laws.a_named_length_stays.Goals as goal
-
-pub returns : goal.returns
-returns c = named_stays
