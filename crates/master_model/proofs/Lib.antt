@@ -1,0 +1,6 @@
+mod Moves
+mod StepMoves
+mod GoesLemmas
+mod StepGoes
+mod FactLemmas
+mod StepFacts

@@ -10,3 +10,5 @@ pub mod Leases
 pub mod Acks
 pub mod Recovery
 pub mod Step
+pub mod Facts
+pub mod Goes

@@ -1,0 +1,58 @@
+//! What holds of every step of a master: laws over its definitions alone.
+//!
+//! `step` is what it does with a message, `on_command` with a command; a tick changes nothing. A law is the
+//! contract of a function that does nothing: a caller that calls it has the law among its facts. The laws speak of
+//! one step: what holds before it and after it (`Facts`), and how the state goes on (`Goes`). `begun` is the stamp
+//! at which the master's writer began, as the lock manager has it. What a message brings (`Brings`) is what each
+//! message has that the format of messages can spell.
+ghost use Rattle.std.specs.Prelude.{ℕ};
+ghost use Rattle.tm_base.specs.declared.command.Command.{Command};
+ghost use Rattle.tm_base.specs.declared.message.Message.{Message};
+ghost use Rattle.master_model.specs.State.{State};
+ghost use Rattle.master_model.specs.Step.{on_command, start, step};
+ghost use Rattle.master_model.specs.Facts.{Brings, Facts, JoinsAfter};
+ghost use Rattle.master_model.specs.Goes.{Goes};
+
+/// What holds in every state holds at the start, where nothing is known yet. It speaks of the start alone:
+/// refused is a fact that wants a master to have joined.
+pub fn facts_hold_at_the_start()
+    ensures { (begun number boot stores : ℕ) → Facts begun (start number boot stores).0 }
+{}
+
+/// It holds after each message: the log's groups are the writer's, numbered 1, 2, .. without gaps, their stamps
+/// rise above the writer's start and none is above the scalar; each tells a vector without the own entry, below its
+/// own stamp; what was told in all groups, with what is still to be told, is all that was heard; the scalar is at
+/// least at every stamp that was heard. Refused is a Beat that has the scalar itself as its stamp, and a vector that
+/// is heard with its own entry.
+pub fn a_message_keeps_the_facts()
+    ensures { (begun : ℕ) (s : State) (m : Message) → Facts begun s → Brings m → JoinsAfter begun s.life m.stamp.0 → Facts begun (step s m).0 }
+{}
+
+/// And after each command. Refused is a command whose second group has the number or the stamp of its first, and
+/// one that tells twice what was heard once and leaves out what was heard since.
+pub fn a_command_keeps_the_facts()
+    ensures { (begun : ℕ) (s : State) (session : ℕ) (asked : Command) → Facts begun s → Facts begun (on_command s session asked).0 }
+{}
+
+/// How a message moves the state on: the log grows at its end alone and loses no acknowledgement, so what is durable
+/// stays so; scalar and heard stamps never fall, nor do epochs of pages and the numbers of transactions and requests;
+/// an end that is known stays known, and so does a writer's recovery; a fenced master stays fenced. Refused is a
+/// Roster that lifts the fence, a grant at a lower epoch, and an acknowledgement that takes another one back.
+pub fn a_message_goes()
+    ensures { (begun : ℕ) (s : State) (m : Message) → Facts begun s → Brings m → Goes s (step s m).0 }
+{}
+
+/// So does a command. Refused is an abort that cuts the log, and one that gives a transaction's number back.
+pub fn a_command_goes()
+    ensures { (begun : ℕ) (s : State) (session : ℕ) (asked : Command) → Facts begun s → Goes s (on_command s session asked).0 }
+{}
+
+/// A state goes on to itself, as on a tick. It speaks of the relation alone: refused is one that wants a step.
+pub fn going_stands_still()
+    ensures { (s : State) → Goes s s }
+{}
+
+/// What goes on twice goes on. Refused is a relation that holds of one step alone.
+pub fn going_is_transitive()
+    ensures { (a b c : State) → Goes a b → Goes b c → Goes a c }
+{}
