@@ -173,7 +173,7 @@ front_moves start = record {
   change = λ w r stamp page is h. h;
   grant = λ w page epoch stamp tags vector new brought fits h.
       front_vector start w.log (clock.heard_scalar w.clock stamp.0) vector brought (front_scalar start w.log w.clock stamp.0 fits h);
-  image = λ w image. image_front start w _;
+  image = λ w image held. image_front start w _;
   fresh_page = λ w page is h. h;
   fresh_none = λ w h. h;
   recall = λ w page epoch h. h;

@@ -164,7 +164,7 @@ log_moves = record {
   group = λ w records room. log_appended w.log _;
   change = λ w r stamp page is. log_stays w.log;
   grant = λ w page epoch stamp tags vector new brought fits. log_stays w.log;
-  image = λ w image. image_log w _;
+  image = λ w image held. image_log w _;
   fresh_page = λ w page is. log_stays w.log;
   fresh_none = λ w. log_stays w.log;
   recall = λ w page epoch. log_stays w.log;
@@ -228,7 +228,7 @@ clock_moves = record {
   grant = λ w page epoch stamp tags vector new brought fits.
       clock_moves_both w.clock (clock.heard_scalar w.clock stamp.0) (clock.heard_vector (clock.heard_scalar w.clock stamp.0) vector) (stamp_heard w.clock stamp.0)
       (vector_heard (clock.heard_scalar w.clock stamp.0) vector brought.0);
-  image = λ w image. image_clock w _;
+  image = λ w image held. image_clock w _;
   fresh_page = λ w page is. clock_still w.clock;
   fresh_none = λ w. clock_still w.clock;
   recall = λ w page epoch. clock_still w.clock;
@@ -315,7 +315,7 @@ epoch_moves = record {
   group = λ w records room. epochs_stay w.leases;
   change = λ w r stamp page is. epochs_changed w.leases page (record { 0 = stamp });
   grant = λ w page epoch stamp tags vector new brought fits. epochs_granted w.leases page.0 epoch stamp;
-  image = λ w image. image_epochs w _;
+  image = λ w image held. image_epochs w _;
   fresh_page = λ w page is. epochs_granted w.leases page.0 1 (record { 0 = 0 });
   fresh_none = λ w. epochs_stay w.leases;
   recall = λ w page epoch. epochs_recalled w.leases page epoch;

@@ -3,4 +3,5 @@ mod StepMoves
 mod GoesLemmas
 mod StepGoes
 mod FactLemmas
+mod PageLemmas
 mod StepFacts

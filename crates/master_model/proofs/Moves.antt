@@ -23,7 +23,7 @@ use Rattle.page_model.specs.Splits.{Refusal, TooHigh, Wanting, images_on, plan_o
 use Rattle.page_model.specs.Tree.{path_of}
 use Rattle.vs_clock.specs.State.{heard_scalar, told, ticked}
 use Rattle.log_writer.specs.Log.{Log, acked, appended}
-use Rattle.lease_desk.specs.Desk.{granted, is_ready, lease_of, recalled, released}
+use Rattle.lease_desk.specs.Desk.{granted, is_held, is_ready, lease_of, recalled, released}
 use Rattle.master_model.specs.declared.session.Own.{Own}
 use Rattle.master_model.specs.declared.session.Progress.{Progress}
 use Rattle.master_model.specs.declared.session.Progress.TheVariants.{Active, Undoing, Ended}
@@ -82,7 +82,7 @@ pub record Closed (R : Work → Work → Type 0) : Type 0 where
   -- pages
   pub grant : (w : Work) (page : Page) (epoch : ℕ) (stamp : Stamp) (tags : List Tag) (vector : List VectorEntry)
       → nat_lt (lease_of w.leases page.0).epoch epoch ≡ true → Brought vector → stamp.0 ≤ 2 ^ 63 - 1 → R w (takes_page w page epoch stamp tags vector)
-  pub image : (w : Work) (image : Image) → R w (with_image w image)
+  pub image : (w : Work) (image : Image) → is_held (lease_of w.leases image.page.0).state ≡ true → R w (with_image w image)
   pub fresh_page : (w : Work) (page : Page) → nat_lt 1024 page.0 && nat_eq (lease_of w.leases page.0).epoch 0 ≡ true → R w (fresh_taken w page)
   pub fresh_none : (w : Work) → R w (record w { fresh = w.fresh + 1; spent = true })
   pub recall : (w : Work) (page epoch : ℕ) → R w (record w { leases = recalled w.leases page epoch })

@@ -90,7 +90,7 @@ rest_moves = record {
   group = λ w records room. rest_same w _ refl refl refl refl refl;
   change = λ w r stamp page is. rest_same w _ refl refl refl refl refl;
   grant = λ w page epoch stamp tags vector new brought fits. rest_same w _ refl refl refl refl refl;
-  image = λ w image. image_rest w _;
+  image = λ w image held. image_rest w _;
   fresh_page = λ w page is. record { number = refl; stores = refl; ends = λ t h. h; begun = omega arith; fresh = omega arith };
   fresh_none = λ w. record { number = refl; stores = refl; ends = λ t h. h; begun = omega arith; fresh = omega arith };
   recall = λ w page epoch. rest_same w _ refl refl refl refl refl;

@@ -1,5 +1,5 @@
 -- What a message, a command and a tick do to what a writer works on, as small moves.
-use Rattle.std.proofs.Common.{◌≡◌, ◌≤◌, ◌+◌, ◌-◌, ◌^◌, ℕ, Bool, true, false, List, [], ◌∷◌, ◌++◌, Option, Some, None, refl, sym, subst, cond, arith}
+use Rattle.std.proofs.Common.{ap, ◌∙◌, ◌≡◌, ◌≤◌, ◌+◌, ◌-◌, ◌^◌, ℕ, Bool, true, false, List, [], ◌∷◌, ◌++◌, Option, Some, None, refl, sym, subst, cond, arith}
 use Rattle.std.specs.Prelude.{nat_eq, nat_lt, nat_le, ◌&&◌, ◌||◌, length}
 use Rattle.std.specs.List.{AllByRecursion}
 use Rattle.std.specs.FinSet as sets
@@ -30,7 +30,10 @@ use Rattle.page_model.specs.Tiling.{blank_page}
 use Rattle.log_writer.specs.Log.{last_stamp}
 use Rattle.lease_desk.specs.declared.lease.Lease.{Lease}
 use Rattle.lease_desk.specs.declared.lease.Lease.TheVariants as lease
-use Rattle.lease_desk.specs.Desk.{is_ready, is_releasing, lease_of, recalled}
+use Rattle.lease_desk.specs.declared.lease.PageLease.{PageLease}
+use Rattle.lease_desk.specs.Desk.{Leases, granted, is_held, is_ready, is_releasing, lease_of, recalled, set_if}
+use Rattle.std.specs.FinMap.{gets}
+use Rattle.std.specs.FinMap as fin
 use Rattle.master_model.specs.declared.recovery.Stage.{Stage}
 use Rattle.master_model.specs.declared.recovery.Stage.TheVariants.{Seal, Close, Scan, Take, Undo, Told, Over}
 use Rattle.master_model.specs.State.{Work, Life, Recovery, Answer, Effect, durable, settled, writer_of}
@@ -69,6 +72,20 @@ turn_brought writer next most [] h = tt
 turn_brought writer next most (g ∷ gs) h =
     turn_if g (in_turn writer (next + 1) most gs) (in_turn writer next most gs) (is_next writer next most g) h.0 (turn_brought writer (next + 1) most gs h.1) (turn_brought writer next most gs h.1)
 
+-- A page that was granted is held.
+pub granted_held : (m : Leases) (page epoch : ℕ) (stamp : Stamp) → nat_lt (lease_of m page).epoch epoch ≡ true → is_held (lease_of (granted m page epoch stamp) page).state ≡ true
+granted_held m page epoch stamp is = ap (λ (b : Bool). is_held (lease_of (set_if m page l b) page).state) is ∙ set_here m page l
+  where
+    l : PageLease
+    l = record { epoch = epoch; state = lease.Held; stamp = stamp }
+
+    set_here : (m : Leases) (page : ℕ) (new : PageLease) → is_held (lease_of (fin.insert m page new) page).state ≡ is_held new.state
+    set_here m page new = grind (arith, nat_tests, gets)
+
+pub fresh_rises : (a : Bool) (epoch : ℕ) → a && nat_eq epoch 0 ≡ true → nat_lt epoch 1 ≡ true
+fresh_rises true epoch is = grind (arith, nat_tests)
+fresh_rises false epoch is = absurd (cc is)
+
 module _ {R : Work → Work → Type 0} (c : Closed R) where
   -- ---- pages
 
@@ -92,20 +109,20 @@ module _ {R : Work → Work → Type 0} (c : Closed R) where
       taken : Work
       taken = leases.takes_page w page epoch stamp tags vector
 
-      with_first : (b : Bool) → R taken (leases.gets_image taken page b).0
-      with_first true = c.image taken (initial page)
-      with_first false = c.none taken
+      with_first : (b : Bool) → nat_lt (lease_of w.leases page.0).epoch epoch ≡ true → R taken (leases.gets_image taken page b).0
+      with_first true is = c.image taken (initial page) (granted_held w.leases page.0 epoch stamp is)
+      with_first false is = c.none taken
 
       by : (b : Bool) → nat_lt (lease_of w.leases page.0).epoch epoch ≡ b → R w (leases.on_grant_if w page epoch stamp tags vector b).0
       by false is = c.none w
-      by true is = c.both w taken _ (c.grant w page epoch stamp tags vector is brought fits) (with_first (nat_eq stamp.0 0))
+      by true is = c.both w taken _ (c.grant w page epoch stamp tags vector is brought fits) (with_first (nat_eq stamp.0 0) is)
 
   fresh_moves : (w : Work) (nth : ℕ) (page : Option Page) → R w (leases.on_fresh w nth page).0
   fresh_moves w nth page = by (nat_eq nth (w.fresh + 1))
     where
       given : (p : Page) (b : Bool) → nat_lt 1024 p.0 && nat_eq (lease_of w.leases p.0).epoch 0 ≡ b → R w (leases.with_fresh_if w p b)
       given p false is = c.none w
-      given p true is = c.both w (fresh_taken w p) _ (c.fresh_page w p is) (c.image (fresh_taken w p) (blank_page p))
+      given p true is = c.both w (fresh_taken w p) _ (c.fresh_page w p is) (c.image (fresh_taken w p) (blank_page p) (granted_held w.leases p.0 1 (record { 0 = 0 }) (fresh_rises (nat_lt 1024 p.0) (lease_of w.leases p.0).epoch is)))
 
       any : (o : Option Page) → R w (leases.with_fresh w o)
       any None = c.fresh_none w
@@ -116,11 +133,16 @@ module _ {R : Work → Work → Type 0} (c : Closed R) where
       by false = c.none w
 
   page_moves : (w : Work) (image : Image) → R w (leases.on_page w image).0
-  page_moves w image = by (leases.is_wanted w image (image_of image.page.0 w.pool.images))
+  page_moves w image = by (image_of image.page.0 w.pool.images)
     where
-      by : (b : Bool) → R w (leases.on_page_if w image b).0
-      by true = c.image w image
-      by false = c.none w
+      new : (b d : Bool) → is_held (lease_of w.leases image.page.0).state ≡ b → R w (leases.on_page_if w image (b && d)).0
+      new true true is = c.image w image is
+      new true false is = c.none w
+      new false d is = c.none w
+
+      by : (o : Option Image) → R w (leases.on_page_if w image (leases.is_wanted w image o)).0
+      by (Some old) = c.none w
+      by None = new (is_held (lease_of w.leases image.page.0).state) (nat_eq image.stamp.0 (lease_of w.leases image.page.0).stamp.0) refl
 
   recall_moves : (w : Work) (page epoch : ℕ) → R w (leases.on_recall w page epoch).0
   recall_moves w page epoch = by (nat_eq (lease_of w.leases page).epoch epoch)

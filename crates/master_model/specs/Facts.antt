@@ -1,9 +1,11 @@
--- What holds of a master in every state: its log and its clock.
-use Rattle.std.specs.Prelude.{◌≡◌, ◌<◌, ◌≤◌, ℕ, ◌+◌, ◌-◌, ◌^◌, List, [], ◌∷◌, map, length, max}
+-- What holds of a master in every state: of its log, its clock and its pages.
+use Rattle.std.specs.Prelude.{◌≡◌, ◌<◌, ◌≤◌, ℕ, ◌+◌, ◌-◌, ◌^◌, Bool, true, false, List, [], ◌∷◌, map, length, max}
 use Rattle.std.specs.List.{AllByRecursion}
 use Rattle.std.specs.declared.option.Option.{Option}
 use Rattle.std.specs.declared.option.Option.TheVariants.{None, Some}
+use Rattle.tm_data.specs.declared.image.Image.{Image}
 use Rattle.tm_data.specs.declared.log.Group.{Group}
+use Rattle.tm_data.specs.declared.transaction.Page.{Page}
 use Rattle.tm_data.specs.declared.vector.VectorEntry.{VectorEntry}
 use Rattle.tm_data.specs.Vectors.{IsVector, greatest, stamp_of}
 use Rattle.tm_base.specs.declared.message.Message.{Message}
@@ -11,7 +13,11 @@ use Rattle.tm_base.specs.declared.message.Note.{Note}
 use Rattle.tm_base.specs.declared.message.Note.TheVariants as note
 use Rattle.vs_clock.specs.State as clock
 use Rattle.log_writer.specs.declared.logged.Logged.{Logged}
+use Rattle.page_model.specs.Pool.{OneEach}
 use Rattle.log_writer.specs.Log.{Log}
+use Rattle.lease_desk.specs.declared.lease.Lease.{Lease}
+use Rattle.lease_desk.specs.declared.lease.Lease.TheVariants as lease
+use Rattle.lease_desk.specs.Desk.{Leases, lease_of}
 use Rattle.master_model.specs.State.{Work, Life, State}
 
 -- ---- what a message brings
@@ -75,11 +81,29 @@ pub record ClockFacts (log : Log) (s : clock.State) : Type 0 where
   -- what was told in the log's groups, with what is still to be told, is what was heard
   pub told : (w : ℕ) → stamp_of s.heard w ≡ max (told_in (groups_of log) w) (stamp_of s.untold w)
 
+-- ---- pages
+
+-- A page is here to work on, or was until it was recalled.
+abbrev pub is_had : Lease → Bool
+is_had lease.Held = true
+is_had lease.Recalled = true
+is_had other = false
+
+abbrev pub Has : Leases → ℕ → Type 0
+Has leases page = is_had (lease_of leases page).state ≡ true
+
+-- Each fresh page and each image is of such a page, and no page has two images.
+pub record PageFacts (leases : Leases) (images : List Image) (stock : List Page) : Type 0 where
+  pub fresh : AllByRecursion (λ (p : Page). Has leases p.0) stock
+  pub images_had : AllByRecursion (λ (i : Image). Has leases i.page.0) images
+  pub one_each : OneEach images
+
 -- ---- a master
 
 pub record WorkFacts (start : ℕ) (w : Work) : Type 0 where
   pub of_log : LogFacts start w.log w.clock.scalar
   pub of_clock : ClockFacts w.log w.clock
+  pub of_pages : PageFacts w.leases w.pool.images w.stock
 
 -- Of a master that has joined, with a writer that began at a stamp.
 abbrev pub LifeFacts : ℕ → Option Life → Type 0

@@ -22,8 +22,9 @@ pub fn facts_hold_at_the_start()
 /// It holds after each message: the log's groups are the writer's, numbered 1, 2, .. without gaps, their stamps
 /// rise above the writer's start and none is above the scalar; each tells a vector without the own entry, below its
 /// own stamp; what was told in all groups, with what is still to be told, is all that was heard; the scalar is at
-/// least at every stamp that was heard. Refused is a Beat that has the scalar itself as its stamp, and a vector that
-/// is heard with its own entry.
+/// least at every stamp that was heard. Each fresh page and each image is of a page that is held or recalled, and no
+/// page has two images. Refused are a Beat that has the scalar itself as its stamp, a vector that is heard with its
+/// own entry, and a page that is given back and keeps its image or its place among the fresh ones.
 pub fn a_message_keeps_the_facts()
     ensures { (begun : ℕ) (s : State) (m : Message) → Facts begun s → Brings m → JoinsAfter begun s.life m.stamp.0 → Facts begun (step s m).0 }
 {}
