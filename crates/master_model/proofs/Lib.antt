@@ -5,3 +5,7 @@ mod StepGoes
 mod FactLemmas
 mod PageLemmas
 mod StepFacts
+mod Answers
+mod ToldLemmas
+mod StepTold
+mod NoteTold

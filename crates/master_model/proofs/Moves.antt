@@ -118,7 +118,7 @@ changes_front w (r ∷ rs) stamp =
     let one = change_front w r stamp (page_of r) in
     let rest = changes_front (with_change w r stamp (page_of r)) rs stamp in (rest.0 ∙ one.0, rest.1 ∙ one.1)
 
-room_left : (w : Work) (g : Group) (count : ℕ) → HasRoom w (count + 1) → HasRoom (with_changes (record w { clock = told (ticked w.clock); log = appended w.log g }) g.records g.stamp.0) count
+pub room_left : (w : Work) (g : Group) (count : ℕ) → HasRoom w (count + 1) → HasRoom (with_changes (record w { clock = told (ticked w.clock); log = appended w.log g }) g.records g.stamp.0) count
 room_left w g count room =
     let base : Work = record w { clock = told (ticked w.clock); log = appended w.log g } in
     let same = changes_front base g.records g.stamp.0 in

@@ -12,3 +12,4 @@ pub mod Recovery
 pub mod Step
 pub mod Facts
 pub mod Goes
+pub mod Told

@@ -9,9 +9,10 @@ ghost use Rattle.std.specs.Prelude.{ℕ};
 ghost use Rattle.tm_base.specs.declared.command.Command.{Command};
 ghost use Rattle.tm_base.specs.declared.message.Message.{Message};
 ghost use Rattle.master_model.specs.State.{State};
-ghost use Rattle.master_model.specs.Step.{on_command, start, step};
+ghost use Rattle.master_model.specs.Step.{on_command, start, step, tick};
 ghost use Rattle.master_model.specs.Facts.{Brings, Facts, JoinsAfter};
 ghost use Rattle.master_model.specs.Goes.{Goes};
+ghost use Rattle.master_model.specs.Told.{Sent};
 
 /// What holds in every state holds at the start, where nothing is known yet. It speaks of the start alone:
 /// refused is a fact that wants a master to have joined.
@@ -56,4 +57,28 @@ pub fn going_stands_still()
 /// What goes on twice goes on. Refused is a relation that holds of one step alone.
 pub fn going_is_transitive()
     ensures { (a b c : State) → Goes a b → Goes b c → Goes a c }
+{}
+
+/// What is sent after a message says what is so after it. A Release has the body that is kept of its page, however
+/// often it is sent; a Stable has the number of the last durable group; a Request is of a page without a lease here;
+/// a Fate is of an own transaction, and tells whether that has ended; a Takeover and an Undone have the present
+/// vector for sending; each has the master as its sender and the scalar as its stamp, but for a ReadPage, which has
+/// that of its page's last change. Refused are a Release that is sent again with the present vector, a Stable with
+/// the number before the acknowledgement, and a Fate of another writer's transaction.
+pub fn a_message_sends_what_is()
+    ensures { (s : State) (m : Message) → Sent (step s m).0 (step s m).1 }
+{}
+
+/// So does what is sent after a command: each Append has a group of the own log, and the log has it by the end of
+/// the step; a RequestFresh has the number after the last one that was answered; an Ask is of another writer's
+/// transaction. Refused is an Append of a group that isn't logged, and a RequestFresh that repeats the last number.
+pub fn a_command_sends_what_is()
+    ensures { (s : State) (session : ℕ) (asked : Command) → Sent (on_command s session asked).0 (on_command s session asked).2 }
+{}
+
+/// And what is sent on a tick, and at the start, where a Register has the boot number. Refused is a tick that sends
+/// a page's Release with what is known now, and a start that registers with another boot number.
+pub fn a_tick_sends_what_is()
+    ensures tick { (s : State) → Sent s (tick s) }
+    ensures start { (number boot stores : ℕ) → Sent (start number boot stores).0 (start number boot stores).1 }
 {}
