@@ -9,3 +9,5 @@ mod Answers
 mod ToldLemmas
 mod StepTold
 mod NoteTold
+mod ReplyLemmas
+mod QuietLemmas

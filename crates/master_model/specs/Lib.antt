@@ -13,3 +13,4 @@ pub mod Step
 pub mod Facts
 pub mod Goes
 pub mod Told
+pub mod Replies

@@ -5,10 +5,14 @@
 //! one step: what holds before it and after it (`Facts`), and how the state goes on (`Goes`). `begun` is the stamp
 //! at which the master's writer began, as the lock manager has it. What a message brings (`Brings`) is what each
 //! message has that the format of messages can spell.
-ghost use Rattle.std.specs.Prelude.{ℕ};
+ghost use Rattle.std.specs.Prelude.{◌≡◌, ℕ, List, Option};
 ghost use Rattle.tm_base.specs.declared.command.Command.{Command};
+ghost use Rattle.tm_base.specs.declared.command.Command.TheVariants as command;
 ghost use Rattle.tm_base.specs.declared.message.Message.{Message};
-ghost use Rattle.master_model.specs.State.{State};
+ghost use Rattle.tm_base.specs.declared.reply.Reply.TheVariants as reply;
+ghost use Rattle.master_model.specs.State.{State, Work};
+ghost use Rattle.master_model.specs.Reads.{get};
+ghost use Rattle.master_model.specs.Replies.{PathIsHere, QuietOrAsking, Reads};
 ghost use Rattle.master_model.specs.Step.{on_command, start, step, tick};
 ghost use Rattle.master_model.specs.Facts.{Brings, Facts, JoinsAfter};
 ghost use Rattle.master_model.specs.Goes.{Goes};
@@ -81,4 +85,23 @@ pub fn a_command_sends_what_is()
 pub fn a_tick_sends_what_is()
     ensures tick { (s : State) → Sent s (tick s) }
     ensures start { (number boot stores : ℕ) → Sent (start number boot stores).0 (start number boot stores).1 }
+{}
+
+/// A get that answers a value read it in the leaf at the end of the key's path, of which every page is held, not
+/// recalled and in the pool: no value where the key has no row, and else the row's, which is the own transaction's
+/// or one that is known to have ended. So it never answers what another transaction wrote that may still be undone.
+/// Refused is a get that takes a transaction for ended because it was told to be open once, and one that reads the
+/// row of another session's open transaction.
+pub fn a_get_reads_what_has_ended()
+    ensures { (w : Work) (session table : ℕ) (key : List ℕ) (value : Option (List ℕ)) → (get w session table key).reply ≡ reply.Value value → Reads w session table key value }
+{}
+
+/// A get, a put or a del whose path is held, not recalled and in the pool sends the lock manager nothing, unless it
+/// is answered that a transaction's fate or a fresh page is asked for: a row that is here is read, locked and written
+/// without a word. Refused are a put that asks for the lease of a fresh page that it has, a get that tells of its
+/// shared lock, and a split that registers its pages.
+pub fn a_path_that_is_here_is_quiet()
+    ensures get { (begun : ℕ) (s : State) (session table : ℕ) (key : List ℕ) → Facts begun s → PathIsHere s.life table key → QuietOrAsking (on_command s session (command.Get table key)).1 (on_command s session (command.Get table key)).2 }
+    ensures put { (begun : ℕ) (s : State) (session table : ℕ) (key value : List ℕ) → Facts begun s → PathIsHere s.life table key → QuietOrAsking (on_command s session (command.Put table key value)).1 (on_command s session (command.Put table key value)).2 }
+    ensures del { (begun : ℕ) (s : State) (session table : ℕ) (key : List ℕ) → Facts begun s → PathIsHere s.life table key → QuietOrAsking (on_command s session (command.Del table key)).1 (on_command s session (command.Del table key)).2 }
 {}
