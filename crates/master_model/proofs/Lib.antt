@@ -4,6 +4,7 @@ mod GoesLemmas
 mod StepGoes
 mod FactLemmas
 mod PageLemmas
+mod LeaseLemmas
 mod StepFacts
 mod Answers
 mod ToldLemmas

@@ -23,7 +23,7 @@ use Rattle.page_model.specs.Splits.{Refusal, TooHigh, Wanting, images_on, plan_o
 use Rattle.page_model.specs.Tree.{path_of}
 use Rattle.vs_clock.specs.State.{heard_scalar, told, ticked}
 use Rattle.log_writer.specs.Log.{Log, acked, appended}
-use Rattle.lease_desk.specs.Desk.{granted, is_held, is_ready, lease_of, recalled, released}
+use Rattle.lease_desk.specs.Desk.{granted, is_held, is_ready, is_releasing, lease_of, recalled, released}
 use Rattle.master_model.specs.declared.session.Own.{Own}
 use Rattle.master_model.specs.declared.session.Progress.{Progress}
 use Rattle.master_model.specs.declared.session.Progress.TheVariants.{Active, Undoing, Ended}
@@ -87,7 +87,7 @@ pub record Closed (R : Work → Work → Type 0) : Type 0 where
   pub fresh_none : (w : Work) → R w (record w { fresh = w.fresh + 1; spent = true })
   pub recall : (w : Work) (page epoch : ℕ) → R w (record w { leases = recalled w.leases page epoch })
   pub give_back : (w : Work) (page : ℕ) → is_ready (lease_of w.leases page) (settled w) ≡ true → R w (gives_back w page)
-  pub release : (w : Work) (page epoch : ℕ) → R w (record w { leases = released w.leases page epoch; left = fin.remove w.left page })
+  pub release : (w : Work) (page epoch : ℕ) → is_releasing (lease_of w.leases page).state && nat_eq (lease_of w.leases page).epoch epoch ≡ true → R w (record w { leases = released w.leases page epoch; left = fin.remove w.left page })
   pub path : (w : Work) (path : List Page) → R w (uses w path)
   -- fates
   pub end : (w : Work) (t : Txn) → is_own w t ≡ false → R w (with_end w t)

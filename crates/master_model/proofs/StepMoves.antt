@@ -159,11 +159,11 @@ module _ {R : Work → Work → Type 0} (c : Closed R) where
       by false = c.none w
 
   released_moves : (w : Work) (page epoch : ℕ) → R w (leases.on_released w page epoch).0
-  released_moves w page epoch = by (is_releasing (lease_of w.leases page).state && nat_eq (lease_of w.leases page).epoch epoch)
+  released_moves w page epoch = by (is_releasing (lease_of w.leases page).state && nat_eq (lease_of w.leases page).epoch epoch) refl
     where
-      by : (b : Bool) → R w (leases.on_released_if w page epoch b).0
-      by true = c.release w page epoch
-      by false = c.none w
+      by : (b : Bool) → is_releasing (lease_of w.leases page).state && nat_eq (lease_of w.leases page).epoch epoch ≡ b → R w (leases.on_released_if w page epoch b).0
+      by true is = c.release w page epoch is
+      by false is = c.none w
 
   -- ---- the log
 

@@ -1,6 +1,9 @@
--- What holds of a master in every state: of its log, its clock and its pages.
-use Rattle.std.specs.Prelude.{◌≡◌, ◌<◌, ◌≤◌, ℕ, ◌+◌, ◌-◌, ◌^◌, Bool, true, false, List, [], ◌∷◌, map, length, max}
+-- What holds of a master in every state: of its log, its clock, its pages and its leases.
+use Rattle.std.specs.Prelude.{◌≡◌, ◌<◌, ◌≤◌, ℕ, ◌+◌, ◌-◌, ◌^◌, Bool, true, false, List, [], ◌∷◌, map, length, max, is_some}
 use Rattle.std.specs.List.{AllByRecursion}
+use Rattle.std.specs.Ordering.{nat_cmp}
+use Rattle.std.specs.FinMap.{FinMap}
+use Rattle.std.specs.FinMap as fin
 use Rattle.std.specs.declared.option.Option.{Option}
 use Rattle.std.specs.declared.option.Option.TheVariants.{None, Some}
 use Rattle.tm_data.specs.declared.image.Image.{Image}
@@ -17,7 +20,9 @@ use Rattle.page_model.specs.Pool.{OneEach}
 use Rattle.log_writer.specs.Log.{Log}
 use Rattle.lease_desk.specs.declared.lease.Lease.{Lease}
 use Rattle.lease_desk.specs.declared.lease.Lease.TheVariants as lease
-use Rattle.lease_desk.specs.Desk.{Leases, lease_of}
+use Rattle.lease_desk.specs.declared.lease.PageLease.{PageLease}
+use Rattle.lease_desk.specs.Desk.{Leases, is_releasing, lease_of}
+use Rattle.master_model.specs.declared.left.Left.{Left}
 use Rattle.master_model.specs.State.{Work, Life, State}
 
 -- ---- what a message brings
@@ -98,12 +103,37 @@ pub record PageFacts (leases : Leases) (images : List Image) (stock : List Page)
   pub images_had : AllByRecursion (λ (i : Image). Has leases i.page.0) images
   pub one_each : OneEach images
 
+-- ---- leases
+
+abbrev pub is_out : Lease → Bool
+is_out lease.None = false
+is_out other = true
+
+-- What was told of a page that is being given back.
+pub record IsToldOf (at : PageLease) (told : Left) : Type 0 where
+  pub releasing : is_releasing at.state ≡ true
+  pub epoch : told.epoch ≡ at.epoch
+  pub stamp : told.stamp ≡ at.stamp
+
+-- A page's lease, and what is kept of what was told of it.
+pub record LeaseFact (at : PageLease) (kept : Option Left) : Type 0 where
+  -- a page that was leased here has an epoch from 1 on
+  pub epoch : is_out at.state ≡ true → 1 ≤ at.epoch
+  -- what is kept is of the present lease, and the page is being given back
+  pub told : (l : Left) → kept ≡ Some l → IsToldOf at l
+  -- something is kept of each page that is being given back
+  pub kept_so : is_releasing at.state ≡ true → is_some kept ≡ true
+
+abbrev pub LeaseFacts : Leases → FinMap nat_cmp Left → Type 0
+LeaseFacts leases left = (page : ℕ) → LeaseFact (lease_of leases page) (fin.get left page)
+
 -- ---- a master
 
 pub record WorkFacts (start : ℕ) (w : Work) : Type 0 where
   pub of_log : LogFacts start w.log w.clock.scalar
   pub of_clock : ClockFacts w.log w.clock
   pub of_pages : PageFacts w.leases w.pool.images w.stock
+  pub of_leases : LeaseFacts w.leases w.left
 
 -- Of a master that has joined, with a writer that began at a stamp.
 abbrev pub LifeFacts : ℕ → Option Life → Type 0

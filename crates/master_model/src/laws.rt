@@ -28,7 +28,8 @@ pub fn facts_hold_at_the_start()
 /// rise above the writer's start and none is above the scalar; each tells a vector without the own entry, below its
 /// own stamp; what was told in all groups, with what is still to be told, is all that was heard; the scalar is at
 /// least at every stamp that was heard. Each fresh page and each image is of a page that is held or recalled, and no
-/// page has two images. Refused are a Beat that has the scalar itself as its stamp, a vector that is heard with its
+/// page has two images; of exactly the pages that are being given back there is what was told, with the epoch and the
+/// stamp of the lease. Refused are a Beat that has the scalar itself as its stamp, a vector that is heard with its
 /// own entry, and a page that is given back and keeps its image or its place among the fresh ones.
 pub fn a_message_keeps_the_facts()
     ensures { (begun : ℕ) (s : State) (m : Message) → Facts begun s → Brings m → JoinsAfter begun s.life m.stamp.0 → Facts begun (step s m).0 }
