@@ -1,0 +1,14 @@
+mod Moves
+mod StepMoves
+mod GoesLemmas
+mod StepGoes
+mod FactLemmas
+mod PageLemmas
+mod LeaseLemmas
+mod StepFacts
+mod Answers
+mod ToldLemmas
+mod StepTold
+mod NoteTold
+mod ReplyLemmas
+mod QuietLemmas

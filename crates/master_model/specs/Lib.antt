@@ -10,3 +10,7 @@ pub mod Leases
 pub mod Acks
 pub mod Recovery
 pub mod Step
+pub mod Facts
+pub mod Goes
+pub mod Told
+pub mod Replies

@@ -6,6 +6,7 @@
 //! after, the reply, the groups that are logged and the messages that are sent, in order.
 #![tactic(auto)]
 
+pub mod laws;
 mod left;
 mod recovery;
 mod session;

@@ -1,0 +1,247 @@
+-- What the commands answer, leaf by leaf. A relation between what a writer has and an answer that holds of each leaf
+-- holds of every answer.
+use Rattle.std.proofs.Common.{◌≡◌, ◌+◌, ◌-◌, ◌^◌, ℕ, Bool, true, false, List, [], ◌∷◌, ◌++◌, Option, Some, None, Result, Ok, Err, refl, sym, subst, arith}
+use Rattle.std.specs.Prelude.{nat_lt, nat_le, length, take}
+use Rattle.std.specs.FinMap as fin
+use Rattle.std.specs.FinSet as sets
+use Rattle.std.proofs.lemmas.Bool.Decides.{nat_tests}
+use Rattle.std.proofs.lemmas.List.{length-append}
+use Rattle.tm_data.specs.declared.image.Image.{Image}
+use Rattle.tm_data.specs.declared.log.Record.{Record}
+use Rattle.tm_data.specs.declared.row.Row.{Row}
+use Rattle.tm_data.specs.declared.row_map.RowKey.{RowKey}
+use Rattle.tm_data.specs.declared.transaction.Page.{Page}
+use Rattle.tm_data.specs.declared.transaction.Txn.{Txn}
+use Rattle.tm_base.specs.declared.message.Note.TheVariants as note
+use Rattle.tm_base.specs.declared.message.Tag.{Tag}
+use Rattle.tm_base.specs.declared.reply.Reply.{Reply}
+use Rattle.tm_base.specs.declared.reply.Reply.TheVariants as reply
+use Rattle.page_model.specs.Splits.{Refusal, TooHigh, Wanting, images_on, plan_of, is_full}
+use Rattle.page_model.specs.Tree.{path_of}
+use Rattle.master_model.specs.declared.session.Own.{Own}
+use Rattle.master_model.specs.declared.session.Progress.{Progress}
+use Rattle.master_model.specs.declared.session.Progress.TheVariants.{Active, Undoing, Ended}
+use Rattle.master_model.specs.Tags.{same_txn, takes, with_tag, others_on, foreign_on}
+use Rattle.master_model.specs.State.{Work, Answer, answers, says, to_locks}
+use Rattle.master_model.specs.Fates as fates
+use Rattle.master_model.specs.Fates.{Standing, Free, Locks, Unknown, named, unless, or_later}
+use Rattle.master_model.specs.Paths as paths
+use Rattle.master_model.specs.Paths.{here, uses, last_of, wants}
+use Rattle.master_model.specs.Logging.{logs, with_room, if_room, has_numbers, has_stamps}
+use Rattle.master_model.specs.Reads as reads
+use Rattle.master_model.specs.Reads.{txn_numbered}
+use Rattle.master_model.specs.Writes as writes
+use Rattle.master_model.specs.Writes.{Put, put_logged}
+use Rattle.master_model.specs.Ends as ends
+use Rattle.master_model.specs.Ends.{Awaited, awaited, free}
+use Rattle.master_model.proofs.Moves.{HasRoom, begun_in}
+
+pub record Answered (P : Work → Answer → Type 0) : Type 0 where
+  -- a path that was used
+  pub used : (w : Work) (path : List Page) (a : Answer) → P (uses w path) a → P w a
+  -- nothing changes
+  pub said : (w : Work) (r : Reply) → P w (says w r)
+  pub wanted : (w : Work) (page : Page) → P w (wants w page)
+  pub fresh : (w : Work) (wanting : ℕ) → P w (answers w (reply.AgainFresh wanting) (to_locks w (note.RequestFresh w.log.writer (w.fresh + 1)) ∷ []))
+  pub asked : (w : Work) (t : Txn) → fates.standing w t ≡ Unknown → P w (answers w (reply.AgainFate t) (to_locks w (note.Ask t w.number) ∷ []))
+  -- something changes
+  pub name : (w : Work) (t : Txn) (r : Reply) → P w (says (named w t) r)
+  pub begin : (w : Work) (session : ℕ) → P w (says (begun_in w session) (reply.Begun (txn_numbered w (w.begun + 1))))
+  pub tag : (w : Work) (page : ℕ) (key : List ℕ) (number : ℕ) (value : Option (List ℕ)) → P w (says (record w { tags = with_tag w.tags page key (txn_numbered w number) }) (reply.Value value))
+  pub put : (w : Work) (p : Put) (leaf : Image) (path fresh : List Page) (groups : List (List Record)) → HasRoom w (length groups) → P w (put_logged p leaf path fresh (logs w groups))
+  pub end : (w : Work) (session : ℕ) (own : Own) (committed : Bool) (groups : List (List Record)) → HasRoom w (length groups) → P w (ends.ends session own committed (logs w groups))
+  pub left : (w : Work) (session : ℕ) (own : Own) (rows : List RowKey) (groups : List (List Record)) → HasRoom w (length groups) → P w (ends.rows_left session own rows (logs w groups))
+  pub undone : (w : Work) (groups : List (List Record)) → HasRoom w (length groups) → P w (ends.undone_logged (logs w groups))
+  pub over : (w : Work) (session : ℕ) (r : Reply) → P w (says (free w session) r)
+
+abbrev IfSays : (Work → Answer → Type 0) → Work → Option Answer → Type 0
+IfSays P w None = Unit {0}
+IfSays P w (Some a) = P w a
+
+module _ {P : Work → Answer → Type 0} (c : Answered P) where
+  room_says : (w : Work) (count : ℕ) (a : Answer) → (HasRoom w count → P w a) → P w (with_room w count a)
+  room_says w count a h = by (has_numbers w count) (has_stamps w count) refl refl
+    where
+      by : (b d : Bool) → has_numbers w count ≡ b → has_stamps w count ≡ d → P w (if_room w b d a)
+      by false d is_b is_d = c.said w reply.FullGroups
+      by true false is_b is_d = c.said w reply.StampsSpent
+      by true true is_b is_d = h (record { numbers = grind (arith, nat_tests); stamps = grind (arith, nat_tests) })
+
+  unless_says : (w : Work) (o : Option Answer) (a : Answer) → IfSays P w o → P w a → P w (unless o a)
+  unless_says w None a stops goes = goes
+  unless_says w (Some b) a stops goes = stops
+
+  blocked_says : (w : Work) (t : Txn) (locked : Reply) → IfSays P w (fates.blocked w t locked)
+  blocked_says w t locked = by (fates.standing w t) refl
+    where
+      by : (s : Standing) → fates.standing w t ≡ s → IfSays P w (fates.blocked_by w t locked s)
+      by Free is = tt
+      by Locks is = c.name w t locked
+      by Unknown is = c.asked w t is
+
+  later_says : (w : Work) (o later : Option Answer) → IfSays P w o → IfSays P w later → IfSays P w (or_later o later)
+  later_says w None later a b = b
+  later_says w (Some x) later a b = a
+
+  tags_say : (w : Work) (words : Tag → Reply) (ts : List Tag) → IfSays P w (fates.blocked_by_tags w words ts)
+  tags_say w words [] = tt
+  tags_say w words (t ∷ ts) = later_says w (fates.blocked w t.txn (words t)) (fates.blocked_by_tags w words ts) (blocked_says w t.txn (words t)) (tags_say w words ts)
+
+  path_says : (w : Work) (table : ℕ) (key : List ℕ) (goes_on : Work → List Page → Image → Answer)
+      → ((path : List Page) (leaf : Image) → P (uses w path) (goes_on (uses w path) path leaf)) → P w (paths.on_path w table key goes_on)
+  path_says w table key goes_on h = by (path_of (here w) table key)
+    where
+      at : (path : List Page) (o : Option Image) → P w (paths.at_leaf w o (goes_on (uses w path) path))
+      at path None = c.wanted w _
+      at path (Some leaf) = c.used w path (goes_on (uses w path) path leaf) (h path leaf)
+
+      by : (r : Result (List Page) Page) → P w (paths.on_found w r goes_on)
+      by (Err page) = c.wanted w page
+      by (Ok path) = at path (last_of None (images_on (here w) path))
+
+  session_says : (w : Work) (session : ℕ) (goes_on : Own → Answer) → ((own : Own) → P w (goes_on own)) → P w (reads.in_session w session goes_on)
+  session_says w session goes_on h = by (fin.get w.sessions session)
+    where
+      by : (o : Option Own) → P w (reads.on_session w o goes_on)
+      by None = c.said w reply.NoTransaction
+      by (Some own) = h own
+
+  active_says : (w : Work) (t : Txn) (p : Progress) (a : Answer) → P w a → P w (reads.if_active w t p a)
+  active_says w t Active a h = h
+  active_says w t other a h = c.said w (reply.Ending t)
+
+  named_says : (w : Work) (table : ℕ) (key : List ℕ) (a : Answer) → P w a → P w (reads.if_named w table key a)
+  named_says w table key a h = by (reads.is_table table) (nat_le (length key) 64)
+    where
+      by : (b d : Bool) → P w (reads.if_table w table b (reads.if_key w key d a))
+      by false d = c.said w (reply.NoTable table)
+      by true false = c.said w (reply.TooLongKey (length key))
+      by true true = h
+
+  pub begin_says : (w : Work) (session : ℕ) → P w (reads.begin w session)
+  begin_says w session = by (fin.get w.sessions session)
+    where
+      new : (b : Bool) → P w (reads.begins w session b)
+      new false = c.said w reply.FullTransactions
+      new true = c.begin w session
+
+      by : (o : Option Own) → P w (reads.begins_beside w session o)
+      by None = new (nat_lt (w.begun + 1) (2 ^ 32 - 1))
+      by (Some own) = c.said w _
+
+  reads_say : (w : Work) (page : ℕ) (key : List ℕ) (number : ℕ) (value : Option (List ℕ)) (b : Bool) → P w (reads.reads_if w page key (txn_numbered w number) value b)
+  reads_say w page key number value false = c.said w reply.FullTags
+  reads_say w page key number value true = c.tag w page key number value
+
+  get_of_says : (w : Work) (leaf : Image) (key : List ℕ) (number : ℕ) (row : Row) (b : Bool) → P w (reads.get_of w leaf key (txn_numbered w number) row b)
+  get_of_says w leaf key number row true = c.said w (reply.Value row.now)
+  get_of_says w leaf key number row false =
+      unless_says w (fates.blocked w row.txn (reply.LockedRow row.txn key)) (reads.reads w leaf.page.0 key (txn_numbered w number) row.now) (blocked_says w row.txn (reply.LockedRow row.txn key))
+      (reads_say w leaf.page.0 key number row.now (takes w.tags leaf.page.0 key (txn_numbered w number)))
+
+  pub get_says : (w : Work) (session table : ℕ) (key : List ℕ) → P w (reads.get w session table key)
+  get_says w session table key =
+      session_says w session _ (λ own.
+      active_says w (txn_numbered w own.number) own.progress _
+      (named_says w table key _
+      (path_says w table key (reads.get_at key (txn_numbered w own.number)) (λ path leaf. at (uses w path) own.number leaf (paths.row_at leaf key)))))
+    where
+      at : (u : Work) (number : ℕ) (leaf : Image) (o : Option Row) → P u (reads.get_row u leaf key (txn_numbered u number) o)
+      at u number leaf None = reads_say u leaf.page.0 key number None (takes u.tags leaf.page.0 key (txn_numbered u number))
+      at u number leaf (Some row) = get_of_says u leaf key number row (same_txn row.txn (txn_numbered u number))
+
+  put_says_logged : (w : Work) (p : Put) (path : List Page) (leaf : Image) (fresh : List Page) (groups : List (List Record)) → P w (writes.put_planned p w path leaf fresh groups)
+  put_says_logged w p path leaf fresh groups = by (writes.first_missing (here w) fresh)
+    where
+      by : (o : Option Page) → P w (writes.if_here w o (with_room w (length groups) (put_logged p leaf path fresh (logs w groups))))
+      by (Some page) = c.wanted w page
+      by None = room_says w (length groups) (put_logged p leaf path fresh (logs w groups)) (c.put w p leaf path fresh groups)
+
+  put_says_planned : (w : Work) (p : Put) (path : List Page) (leaf : Image) (r : Result (List (List Record)) Refusal) → P w (writes.put_by p w path leaf r)
+  put_says_planned w p path leaf (Err TooHigh) = c.said w reply.FullHeight
+  put_says_planned w p path leaf (Err (Wanting wanting)) = by w.spent
+    where
+      by : (b : Bool) → P w (writes.wants_fresh w wanting b)
+      by true = c.said w reply.PagesSpent
+      by false = c.fresh w wanting
+  put_says_planned w p path leaf (Ok groups) = put_says_logged w p path leaf (take (writes.fresh_needed w path p.row) w.stock) groups
+
+  put_says_free : (w : Work) (p : Put) (path : List Page) (leaf : Image) → P w (writes.put_free p w path leaf)
+  put_says_free w p path leaf =
+      unless_says w (writes.blocked_if_full w leaf.page.0 (is_full p.row leaf.body)) _ (by (is_full p.row leaf.body))
+      (put_says_planned w p path leaf (plan_of (here w) path p.row w.stock (w.clock.scalar + 1)))
+    where
+      by : (b : Bool) → IfSays P w (writes.blocked_if_full w leaf.page.0 b)
+      by false = tt
+      by true = tags_say w (λ t. reply.LockedSplit t.txn t.key) (foreign_on w.tags leaf.page.0 w.log.writer.0)
+
+  put_says_row : (w : Work) (session : ℕ) (own : Own) (table : ℕ) (key : List ℕ) (value : Option (List ℕ)) (path : List Page) (leaf : Image) (old : Option Row)
+      → P w (writes.put_row session own table key value w path leaf old)
+  put_says_row w session own table key value path leaf old =
+      let t = txn_numbered w own.number in
+      unless_says w (writes.blocked_by_row w key t old) _ (by old)
+      (unless_says w (writes.blocked_by_readers w leaf.page.0 key t) _ (tags_say w (λ t. reply.LockedRow t.txn key) (others_on w.tags leaf.page.0 key t))
+      (put_says_free w (record { session = session; own = own; table = table; row = writes.row_put key t value old }) path leaf))
+    where
+      other : (row : Row) (b : Bool) → IfSays P w (writes.blocked_by_other w key row b)
+      other row true = tt
+      other row false = blocked_says w row.txn (reply.LockedRow row.txn key)
+
+      by : (o : Option Row) → IfSays P w (writes.blocked_by_row w key (txn_numbered w own.number) o)
+      by None = tt
+      by (Some row) = other row (same_txn row.txn (txn_numbered w own.number))
+
+  value_says : (w : Work) (value : Option (List ℕ)) (a : Answer) → P w a → P w (writes.if_value w value a)
+  value_says w None a h = h
+  value_says w (Some value) a h = by (nat_le (length value) 512)
+    where
+      by : (b : Bool) → P w (writes.if_short w value b a)
+      by false = c.said w (reply.TooLongValue (length value))
+      by true = h
+
+  pub put_says : (w : Work) (session table : ℕ) (key : List ℕ) (value : Option (List ℕ)) → P w (writes.put w session table key value)
+  put_says w session table key value =
+      session_says w session _ (λ own.
+      active_says w (txn_numbered w own.number) own.progress _
+      (named_says w table key _ (value_says w value _
+      (path_says w table key (writes.put_at session own table key value) (λ path leaf. put_says_row (uses w path) session own table key value path leaf (paths.row_at leaf key))))))
+
+  end_says : (w : Work) (session : ℕ) (own : Own) (committed : Bool) (groups : List (List Record)) (count : ℕ) → length groups ≡ count
+      → P w (with_room w count (ends.ends session own committed (logs w groups)))
+  end_says w session own committed groups count is = room_says w count _ (λ room. c.end w session own committed groups (subst (HasRoom w) (sym is) room))
+
+  answers_say : (w : Work) (session : ℕ) (r : Reply) (o : Awaited) → P w (ends.answers_end w session r o)
+  answers_say w session r None = c.over w session r
+  answers_say w session r (Some (store, seq)) = c.said w (reply.AgainStore store seq)
+
+  pub commit_says : (w : Work) (session : ℕ) → P w (ends.commit w session)
+  commit_says w session = session_says w session _ (λ own. by own (txn_numbered w own.number) own.progress)
+    where
+      by : (own : Own) (t : Txn) (p : Progress) → P w (ends.commits w session own t p)
+      by own t Active = end_says w session own true (ends.end_of t true ∷ []) 1 refl
+      by own t (Ended true seq) = answers_say w session (reply.Committed t) (awaited w seq)
+      by own t (Ended false seq) = c.said w (reply.Ending t)
+      by own t (Undoing rows) = c.said w (reply.Ending t)
+
+  abort_says_with : (w : Work) (session : ℕ) (own : Own) (t : Txn) (undone : List (List Record)) (rows : List RowKey) → P w (ends.aborts_with w session own t undone rows)
+  abort_says_with w session own t undone [] = end_says w session own false (undone ++ ends.end_of t false ∷ []) (length undone + 1) (length-append undone (ends.end_of t false ∷ []))
+  abort_says_with w session own t undone (k ∷ ks) = room_says w (length undone) _ (c.left w session own (k ∷ ks) undone)
+
+  abort_says_rows : (w : Work) (session : ℕ) (own : Own) (t : Txn) (rows : List RowKey) → P w (ends.aborts_rows w session own t rows)
+  abort_says_rows w session own t [] = abort_says_with w session own t [] []
+  abort_says_rows w session own t (k ∷ ks) =
+      path_says w k.table k.key (λ used path leaf. ends.aborts_with used session own t (ends.undo leaf k.table k.key t) ks) (λ path leaf.
+      abort_says_with (uses w path) session own t (ends.undo leaf k.table k.key t) ks)
+
+  pub abort_says : (w : Work) (session : ℕ) → P w (ends.abort w session)
+  abort_says w session = session_says w session _ (λ own. by own (txn_numbered w own.number) own.progress)
+    where
+      by : (own : Own) (t : Txn) (p : Progress) → P w (ends.aborts w session own t p)
+      by own t Active = abort_says_rows w session own t (sets.items own.written)
+      by own t (Undoing rows) = abort_says_rows w session own t rows
+      by own t (Ended false seq) = answers_say w session (reply.Aborted t) (awaited w seq)
+      by own t (Ended true seq) = c.said w (reply.Ending t)
+
+  pub undo_says : (w : Work) (table : ℕ) (key : List ℕ) (t : Txn) → P w (ends.undo_next w table key t)
+  undo_says w table key t = path_says w table key (λ used path leaf. ends.undoes (ends.undo leaf table key t) used) (λ path leaf.
+      room_says (uses w path) (length (ends.undo leaf table key t)) _ (c.undone (uses w path) (ends.undo leaf table key t)))

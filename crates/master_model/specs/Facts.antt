@@ -1,0 +1,149 @@
+-- What holds of a master in every state: of its log, its clock, its pages and its leases.
+use Rattle.std.specs.Prelude.{◌≡◌, ◌<◌, ◌≤◌, ℕ, ◌+◌, ◌-◌, ◌^◌, Bool, true, false, List, [], ◌∷◌, map, length, max, is_some}
+use Rattle.std.specs.List.{AllByRecursion}
+use Rattle.std.specs.Ordering.{nat_cmp}
+use Rattle.std.specs.FinMap.{FinMap}
+use Rattle.std.specs.FinMap as fin
+use Rattle.std.specs.declared.option.Option.{Option}
+use Rattle.std.specs.declared.option.Option.TheVariants.{None, Some}
+use Rattle.tm_data.specs.declared.image.Image.{Image}
+use Rattle.tm_data.specs.declared.log.Group.{Group}
+use Rattle.tm_data.specs.declared.transaction.Page.{Page}
+use Rattle.tm_data.specs.declared.vector.VectorEntry.{VectorEntry}
+use Rattle.tm_data.specs.Vectors.{IsVector, greatest, stamp_of}
+use Rattle.tm_base.specs.declared.message.Message.{Message}
+use Rattle.tm_base.specs.declared.message.Note.{Note}
+use Rattle.tm_base.specs.declared.message.Note.TheVariants as note
+use Rattle.vs_clock.specs.State as clock
+use Rattle.log_writer.specs.declared.logged.Logged.{Logged}
+use Rattle.page_model.specs.Pool.{OneEach}
+use Rattle.log_writer.specs.Log.{Log}
+use Rattle.lease_desk.specs.declared.lease.Lease.{Lease}
+use Rattle.lease_desk.specs.declared.lease.Lease.TheVariants as lease
+use Rattle.lease_desk.specs.declared.lease.PageLease.{PageLease}
+use Rattle.lease_desk.specs.Desk.{Leases, is_releasing, lease_of}
+use Rattle.master_model.specs.declared.left.Left.{Left}
+use Rattle.master_model.specs.State.{Work, Life, State}
+
+-- ---- what a message brings
+
+-- A vector is one, with stamps up to 2^63 - 1.
+abbrev pub Brought : List VectorEntry → Type 0
+Brought vector = IsVector vector × (greatest vector ≤ 2 ^ 63 - 1)
+
+-- So is that of a group, whose writer's number is at least 1.
+pub record GroupBrought (g : Group) : Type 0 where
+  pub learnt : Brought g.learnt
+  pub writer : 1 ≤ g.writer.0
+  pub stamp : g.stamp.0 ≤ 2 ^ 63 - 1
+
+-- What every message has that was written by the format of messages.
+abbrev pub BringsNote : Note → Type 0
+BringsNote (note.Registered boot writer) = 1 ≤ writer.0
+BringsNote (note.Grant writer page epoch stamp tags vector) = Brought vector × (stamp.0 ≤ 2 ^ 63 - 1)
+BringsNote (note.Fate txn ended vector) = Brought vector
+BringsNote (note.Groups writer groups) = AllByRecursion GroupBrought groups
+BringsNote other = Unit {0}
+
+abbrev pub Brings : Message → Type 0
+Brings m = BringsNote m.note × (m.stamp.0 ≤ 2 ^ 63 - 1)
+
+-- ---- the log
+
+-- The groups without what the log stores have acknowledged.
+abbrev pub groups_in : List Logged → List Group
+groups_in groups = map (λ l. l.group) groups
+
+abbrev pub groups_of : Log → List Group
+groups_of log = groups_in log.groups
+
+-- What was told in some groups of a writer: the greatest stamp of it.
+abbrev pub told_in : List Group → ℕ → ℕ
+told_in [] writer = 0
+told_in (g ∷ gs) writer = max (stamp_of g.learnt writer) (told_in gs writer)
+
+-- Groups of a writer, numbered from `seq` on without gaps, with rising stamps above `after`, up to `last`. What a
+-- group tells is a vector without the writer's own entry, whose stamps are below the group's.
+abbrev pub AreGroups : ℕ → ℕ → ℕ → ℕ → List Group → Type 0
+AreGroups writer seq after last [] = after ≤ last
+AreGroups writer seq after last (g ∷ gs) =
+    (g.writer.0 ≡ writer) × (g.seq ≡ seq) × (after < g.stamp.0) × IsVector g.learnt × (stamp_of g.learnt writer ≡ 0) × (greatest g.learnt < g.stamp.0)
+    × AreGroups writer (seq + 1) g.stamp.0 last gs
+
+-- The groups of a log that began at a stamp, and whose writer's clock has come to this scalar: they are the writer's,
+-- numbered from 1 without gaps, and their stamps rise above the start, up to the scalar.
+pub record LogFacts (start : ℕ) (log : Log) (scalar : ℕ) : Type 0 where
+  pub groups : AreGroups log.writer.0 1 start scalar (groups_of log)
+  pub most : length log.groups < 2 ^ 32
+
+-- ---- the clock
+
+pub record ClockFacts (log : Log) (s : clock.State) : Type 0 where
+  -- it is the log's writer's
+  pub writer : s.writer ≡ log.writer.0
+  -- what is heard has no own entry; the scalar is at least at every stamp that was heard
+  pub sound : clock.IsSound s
+  -- what was told in the log's groups, with what is still to be told, is what was heard
+  pub told : (w : ℕ) → stamp_of s.heard w ≡ max (told_in (groups_of log) w) (stamp_of s.untold w)
+
+-- ---- pages
+
+-- A page is here to work on, or was until it was recalled.
+abbrev pub is_had : Lease → Bool
+is_had lease.Held = true
+is_had lease.Recalled = true
+is_had other = false
+
+abbrev pub Has : Leases → ℕ → Type 0
+Has leases page = is_had (lease_of leases page).state ≡ true
+
+-- Each fresh page and each image is of such a page, and no page has two images.
+pub record PageFacts (leases : Leases) (images : List Image) (stock : List Page) : Type 0 where
+  pub fresh : AllByRecursion (λ (p : Page). Has leases p.0) stock
+  pub images_had : AllByRecursion (λ (i : Image). Has leases i.page.0) images
+  pub one_each : OneEach images
+
+-- ---- leases
+
+abbrev pub is_out : Lease → Bool
+is_out lease.None = false
+is_out other = true
+
+-- What was told of a page that is being given back.
+pub record IsToldOf (at : PageLease) (told : Left) : Type 0 where
+  pub releasing : is_releasing at.state ≡ true
+  pub epoch : told.epoch ≡ at.epoch
+  pub stamp : told.stamp ≡ at.stamp
+
+-- A page's lease, and what is kept of what was told of it.
+pub record LeaseFact (at : PageLease) (kept : Option Left) : Type 0 where
+  -- a page that was leased here has an epoch from 1 on
+  pub epoch : is_out at.state ≡ true → 1 ≤ at.epoch
+  -- what is kept is of the present lease, and the page is being given back
+  pub told : (l : Left) → kept ≡ Some l → IsToldOf at l
+  -- something is kept of each page that is being given back
+  pub kept_so : is_releasing at.state ≡ true → is_some kept ≡ true
+
+abbrev pub LeaseFacts : Leases → FinMap nat_cmp Left → Type 0
+LeaseFacts leases left = (page : ℕ) → LeaseFact (lease_of leases page) (fin.get left page)
+
+-- ---- a master
+
+pub record WorkFacts (start : ℕ) (w : Work) : Type 0 where
+  pub of_log : LogFacts start w.log w.clock.scalar
+  pub of_clock : ClockFacts w.log w.clock
+  pub of_pages : PageFacts w.leases w.pool.images w.stock
+  pub of_leases : LeaseFacts w.leases w.left
+
+-- Of a master that has joined, with a writer that began at a stamp.
+abbrev pub LifeFacts : ℕ → Option Life → Type 0
+LifeFacts start None = Unit {0}
+LifeFacts start (Some l) = WorkFacts start l.work
+
+abbrev pub Facts : ℕ → State → Type 0
+Facts start s = LifeFacts start s.life
+
+-- A master joins no earlier than its writer began.
+abbrev pub JoinsAfter : ℕ → Option Life → ℕ → Type 0
+JoinsAfter start None stamp = start ≤ stamp
+JoinsAfter start (Some l) stamp = Unit {0}

@@ -1,0 +1,71 @@
+-- How a master's state goes on.
+use Rattle.std.specs.Prelude.{◌≡◌, ◌≤◌, ℕ, List, ◌++◌, true}
+use Rattle.std.specs.FinSet.{FinSet}
+use Rattle.std.specs.FinSet as sets
+use Rattle.std.specs.declared.option.Option.{Option}
+use Rattle.std.specs.declared.option.Option.TheVariants.{None, Some}
+use Rattle.tm_data.specs.declared.log.Group.{Group}
+use Rattle.tm_data.specs.declared.transaction.Txn.{Txn}
+use Rattle.tm_data.specs.declared.transaction.Writer.{Writer}
+use Rattle.tm_data.specs.Orders.{txn_cmp}
+use Rattle.tm_data.specs.Vectors.{stamp_of}
+use Rattle.vs_clock.specs.State as clock
+use Rattle.log_writer.specs.Log.{Log, durable_seq, is_marked}
+use Rattle.lease_desk.specs.Desk.{Leases, lease_of}
+use Rattle.master_model.specs.State.{Work, Life, State}
+use Rattle.master_model.specs.Facts.{groups_of}
+
+-- ---- a writer
+
+-- Its log grows at the end, and loses no acknowledgement.
+pub record LogGoes (old new : Log) : Type 0 where
+  pub writer : new.writer ≡ old.writer
+  pub groups : (more : List Group) × (groups_of new ≡ groups_of old ++ more)
+  pub marks : (seq store : ℕ) → is_marked old.groups seq store ≡ true → is_marked new.groups seq store ≡ true
+  pub durable : durable_seq old.groups ≤ durable_seq new.groups
+
+-- Its clock is the same writer's, and what it heard of each writer never falls.
+pub record ClockGoes (old new : clock.State) : Type 0 where
+  pub writer : new.writer ≡ old.writer
+  pub scalar : old.scalar ≤ new.scalar
+  pub heard : (w : ℕ) → stamp_of old.heard w ≤ stamp_of new.heard w
+
+-- Epochs of pages never fall.
+abbrev pub EpochsGo : Leases → Leases → Type 0
+EpochsGo old new = (page : ℕ) → (lease_of old page).epoch ≤ (lease_of new page).epoch
+
+-- An end of another writer's transaction is kept for ever.
+abbrev pub EndsGo : FinSet txn_cmp → FinSet txn_cmp → Type 0
+EndsGo old new = (t : Txn) → sets.contains old t ≡ true → sets.contains new t ≡ true
+
+pub record WorkGoes (old new : Work) : Type 0 where
+  pub number : new.number ≡ old.number
+  pub stores : new.stores ≡ old.stores
+  pub log_goes : LogGoes old.log new.log
+  pub clock_goes : ClockGoes old.clock new.clock
+  pub epochs : EpochsGo old.leases new.leases
+  pub ends : EndsGo old.ended new.ended
+  -- the numbers of transactions and of requests for fresh pages never fall
+  pub begun : old.begun ≤ new.begun
+  pub fresh : old.fresh ≤ new.fresh
+
+-- ---- a master
+
+pub record LifeGoes (old new : Life) : Type 0 where
+  pub work_goes : WorkGoes old.work new.work
+  -- a writer that is known to be recovered stays so
+  pub recovered : (w : Writer) → sets.contains old.recovered w ≡ true → sets.contains new.recovered w ≡ true
+  -- it stays fenced
+  pub fenced : old.fenced ≡ true → new.fenced ≡ true
+
+-- It joins once.
+abbrev pub JoinedGoes : Option Life → Option Life → Type 0
+JoinedGoes None new = Unit {0}
+JoinedGoes (Some old) None = ⊥
+JoinedGoes (Some old) (Some new) = LifeGoes old new
+
+pub record Goes (old new : State) : Type 0 where
+  pub number : new.number ≡ old.number
+  pub boot : new.boot ≡ old.boot
+  pub stores : new.stores ≡ old.stores
+  pub life : JoinedGoes old.life new.life

@@ -1,0 +1,108 @@
+//! What holds of every step of a master: laws over its definitions alone.
+//!
+//! `step` is what it does with a message, `on_command` with a command; a tick changes nothing. A law is the
+//! contract of a function that does nothing: a caller that calls it has the law among its facts. The laws speak of
+//! one step: what holds before it and after it (`Facts`), and how the state goes on (`Goes`). `begun` is the stamp
+//! at which the master's writer began, as the lock manager has it. What a message brings (`Brings`) is what each
+//! message has that the format of messages can spell.
+ghost use Rattle.std.specs.Prelude.{◌≡◌, ℕ, List, Option};
+ghost use Rattle.tm_base.specs.declared.command.Command.{Command};
+ghost use Rattle.tm_base.specs.declared.command.Command.TheVariants as command;
+ghost use Rattle.tm_base.specs.declared.message.Message.{Message};
+ghost use Rattle.tm_base.specs.declared.reply.Reply.TheVariants as reply;
+ghost use Rattle.master_model.specs.State.{State, Work};
+ghost use Rattle.master_model.specs.Reads.{get};
+ghost use Rattle.master_model.specs.Replies.{PathIsHere, QuietOrAsking, Reads};
+ghost use Rattle.master_model.specs.Step.{on_command, start, step, tick};
+ghost use Rattle.master_model.specs.Facts.{Brings, Facts, JoinsAfter};
+ghost use Rattle.master_model.specs.Goes.{Goes};
+ghost use Rattle.master_model.specs.Told.{Sent};
+
+/// What holds in every state holds at the start, where nothing is known yet. It speaks of the start alone:
+/// refused is a fact that wants a master to have joined.
+pub fn facts_hold_at_the_start()
+    ensures { (begun number boot stores : ℕ) → Facts begun (start number boot stores).0 }
+{}
+
+/// It holds after each message: the log's groups are the writer's, numbered 1, 2, .. without gaps, their stamps
+/// rise above the writer's start and none is above the scalar; each tells a vector without the own entry, below its
+/// own stamp; what was told in all groups, with what is still to be told, is all that was heard; the scalar is at
+/// least at every stamp that was heard. Each fresh page and each image is of a page that is held or recalled, and no
+/// page has two images; of exactly the pages that are being given back there is what was told, with the epoch and the
+/// stamp of the lease. Refused are a Beat that has the scalar itself as its stamp, a vector that is heard with its
+/// own entry, and a page that is given back and keeps its image or its place among the fresh ones.
+pub fn a_message_keeps_the_facts()
+    ensures { (begun : ℕ) (s : State) (m : Message) → Facts begun s → Brings m → JoinsAfter begun s.life m.stamp.0 → Facts begun (step s m).0 }
+{}
+
+/// And after each command. Refused is a command whose second group has the number or the stamp of its first, and
+/// one that tells twice what was heard once and leaves out what was heard since.
+pub fn a_command_keeps_the_facts()
+    ensures { (begun : ℕ) (s : State) (session : ℕ) (asked : Command) → Facts begun s → Facts begun (on_command s session asked).0 }
+{}
+
+/// How a message moves the state on: the log grows at its end alone and loses no acknowledgement, so what is durable
+/// stays so; scalar and heard stamps never fall, nor do epochs of pages and the numbers of transactions and requests;
+/// an end that is known stays known, and so does a writer's recovery; a fenced master stays fenced. Refused is a
+/// Roster that lifts the fence, a grant at a lower epoch, and an acknowledgement that takes another one back.
+pub fn a_message_goes()
+    ensures { (begun : ℕ) (s : State) (m : Message) → Facts begun s → Brings m → Goes s (step s m).0 }
+{}
+
+/// So does a command. Refused is an abort that cuts the log, and one that gives a transaction's number back.
+pub fn a_command_goes()
+    ensures { (begun : ℕ) (s : State) (session : ℕ) (asked : Command) → Facts begun s → Goes s (on_command s session asked).0 }
+{}
+
+/// A state goes on to itself, as on a tick. It speaks of the relation alone: refused is one that wants a step.
+pub fn going_stands_still()
+    ensures { (s : State) → Goes s s }
+{}
+
+/// What goes on twice goes on. Refused is a relation that holds of one step alone.
+pub fn going_is_transitive()
+    ensures { (a b c : State) → Goes a b → Goes b c → Goes a c }
+{}
+
+/// What is sent after a message says what is so after it. A Release has the body that is kept of its page, however
+/// often it is sent; a Stable has the number of the last durable group; a Request is of a page without a lease here;
+/// a Fate is of an own transaction, and tells whether that has ended; a Takeover and an Undone have the present
+/// vector for sending; each has the master as its sender and the scalar as its stamp, but for a ReadPage, which has
+/// that of its page's last change. Refused are a Release that is sent again with the present vector, a Stable with
+/// the number before the acknowledgement, and a Fate of another writer's transaction.
+pub fn a_message_sends_what_is()
+    ensures { (s : State) (m : Message) → Sent (step s m).0 (step s m).1 }
+{}
+
+/// So does what is sent after a command: each Append has a group of the own log, and the log has it by the end of
+/// the step; a RequestFresh has the number after the last one that was answered; an Ask is of another writer's
+/// transaction. Refused is an Append of a group that isn't logged, and a RequestFresh that repeats the last number.
+pub fn a_command_sends_what_is()
+    ensures { (s : State) (session : ℕ) (asked : Command) → Sent (on_command s session asked).0 (on_command s session asked).2 }
+{}
+
+/// And what is sent on a tick, and at the start, where a Register has the boot number. Refused is a tick that sends
+/// a page's Release with what is known now, and a start that registers with another boot number.
+pub fn a_tick_sends_what_is()
+    ensures tick { (s : State) → Sent s (tick s) }
+    ensures start { (number boot stores : ℕ) → Sent (start number boot stores).0 (start number boot stores).1 }
+{}
+
+/// A get that answers a value read it in the leaf at the end of the key's path, of which every page is held, not
+/// recalled and in the pool: no value where the key has no row, and else the row's, which is the own transaction's
+/// or one that is known to have ended. So it never answers what another transaction wrote that may still be undone.
+/// Refused is a get that takes a transaction for ended because it was told to be open once, and one that reads the
+/// row of another session's open transaction.
+pub fn a_get_reads_what_has_ended()
+    ensures { (w : Work) (session table : ℕ) (key : List ℕ) (value : Option (List ℕ)) → (get w session table key).reply ≡ reply.Value value → Reads w session table key value }
+{}
+
+/// A get, a put or a del whose path is held, not recalled and in the pool sends the lock manager nothing, unless it
+/// is answered that a transaction's fate or a fresh page is asked for: a row that is here is read, locked and written
+/// without a word. Refused are a put that asks for the lease of a fresh page that it has, a get that tells of its
+/// shared lock, and a split that registers its pages.
+pub fn a_path_that_is_here_is_quiet()
+    ensures get { (begun : ℕ) (s : State) (session table : ℕ) (key : List ℕ) → Facts begun s → PathIsHere s.life table key → QuietOrAsking (on_command s session (command.Get table key)).1 (on_command s session (command.Get table key)).2 }
+    ensures put { (begun : ℕ) (s : State) (session table : ℕ) (key value : List ℕ) → Facts begun s → PathIsHere s.life table key → QuietOrAsking (on_command s session (command.Put table key value)).1 (on_command s session (command.Put table key value)).2 }
+    ensures del { (begun : ℕ) (s : State) (session table : ℕ) (key : List ℕ) → Facts begun s → PathIsHere s.life table key → QuietOrAsking (on_command s session (command.Del table key)).1 (on_command s session (command.Del table key)).2 }
+{}
