@@ -1,2 +1,4 @@
-mod PutLemmas
+mod CountLemmas
+mod FoundLemmas
 mod ListLemmas
+mod PutLemmas

@@ -31,7 +31,7 @@ use Rattle.event_cuts.proofs.PutLemmas.{same_key}
 abbrev Found : Type 0
 Found = List (RowKey × LastPut)
 
-is_less : (r : Ordering) → T (is_lt r) → r ≡ Less
+pub is_less : (r : Ordering) → T (is_lt r) → r ≡ Less
 is_less Less h = refl
 is_less Equal h = absurd h
 is_less Greater h = absurd h

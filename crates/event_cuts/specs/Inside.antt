@@ -1,12 +1,12 @@
 -- What only this crate's own functions speak of.
-use Rattle.std.specs.Prelude.{◌≡◌, ℕ, Bool, true, false, cond, is_some, List, [], ◌∷◌, map}
+use Rattle.std.specs.Prelude.{◌≡◌, ℕ, Bool, true, false, cond, is_some, List, [], ◌∷◌, map, ◌+◌, ◌&&◌, ◌||◌, nat_eq, length, filter}
 use Rattle.std.specs.FinMap as fin
 use Rattle.std.specs.declared.option.Option.{Option}
 use Rattle.std.specs.declared.option.Option.TheVariants.{None, Some}
 use Rattle.tm_data.specs.declared.transaction.Txn.{Txn}
 use Rattle.tm_data.specs.declared.row_map.RowKey.{RowKey}
 use Rattle.tm_data.specs.declared.row.Row.{Row}
-use Rattle.tm_data.specs.Orders.{row_cmp, txn_cmp}
+use Rattle.tm_data.specs.Orders.{row_cmp, txn_cmp, writer_cmp}
 use Rattle.key_model.specs.declared.events.Event.{Event}
 use Rattle.key_model.specs.declared.events.EventKind.{EventKind}
 use Rattle.key_model.specs.declared.events.EventKind.TheVariants.{Read, Put, End}
@@ -14,9 +14,13 @@ use Rattle.key_model.specs.declared.events.TableRow.{TableRow}
 use Rattle.key_model.specs.declared.values.Entry.{Entry}
 use Rattle.key_model.specs.Steps.{row_of}
 use Rattle.key_model.specs.After.{same_txn}
-use Rattle.key_model.specs.Events.{has_end}
+use Rattle.key_model.specs.Events.{has_end, logs, key_of, meet, is_put, is_of, is_by, is_logged}
 use Rattle.key_model.specs.Cuts.{Written, wrote, value_after, value_before, before_of, row_by}
 use Rattle.event_cuts.specs.declared.last_puts.LastPut.{LastPut}
+use Rattle.std.specs.List.{list_any}
+use Rattle.tm_data.specs.declared.transaction.Writer.{Writer}
+use Rattle.key_model.specs.declared.events.Count.{Count}
+use Rattle.event_cuts.specs.declared.reached.Reached.{Reached}
 
 -- ---- the last put on a key, found with those before it from the last on
 
@@ -99,3 +103,80 @@ with_entry key (Some value) entries = record { table = key.table; key = key.key;
 abbrev pub entries_of : EndMap → List (RowKey × LastPut) → List Entry
 entries_of ended [] = []
 entries_of ended (e ∷ es) = with_entry e.0 (mapped ended e.1) (entries_of ended es)
+
+-- ---- the events that reach one, found from the last on
+
+abbrev pub Numbers : Type 0
+Numbers = fin.FinMap writer_cmp ℕ
+
+-- of each key whether one of the events on it is a put
+abbrev pub Keys : Type 0
+Keys = fin.FinMap row_cmp Bool
+
+abbrev pub or_zero : Option ℕ → ℕ
+or_zero None = 0
+or_zero (Some n) = n
+
+abbrev pub or_false : Option Bool → Bool
+or_false None = false
+or_false (Some b) = b
+
+abbrev pub one_if : Bool → ℕ
+one_if true = 1
+one_if false = 0
+
+abbrev pub with_number : Numbers → Writer → Bool → Numbers
+with_number m w logged = fin.insert m w (or_zero (fin.get m w) + one_if logged)
+
+abbrev pub with_key : Keys → RowKey → Bool → Keys
+with_key m key put = fin.insert m key (put || or_false (fin.get m key))
+
+abbrev pub with_kind_key : Keys → EventKind → Keys
+with_kind_key m (Read t table key) = with_key m (row_of table key) false
+with_kind_key m (Put t table key value) = with_key m (row_of table key) true
+with_kind_key m (End t committed) = m
+
+-- one event more is found
+abbrev pub with_found : Reached → Event → Reached
+with_found r e = record { numbers = with_number r.numbers e.actor (logs e.kind); keys = with_kind_key r.keys e.kind }
+
+-- the kind conflicts with an event that was found
+abbrev pub hits : Keys → EventKind → Bool
+hits m (Read t table key) = or_false (fin.get m (row_of table key))
+hits m (Put t table key value) = is_some (fin.get m (row_of table key))
+hits m (End t committed) = false
+
+abbrev pub end_hits : List Event → Keys → EventKind → Bool
+end_hits events m (Read t table key) = false
+end_hits events m (Put t table key value) = false
+end_hits events m (End t committed) = list_any (λ e. is_of t e && hits m e.kind) events
+
+abbrev pub reaches : List Event → Reached → Event → Bool
+reaches events r i = is_some (fin.get r.numbers i.actor) || (hits r.keys i.kind || end_hits events r.keys i.kind)
+
+abbrev pub found_if : Bool → Reached → Event → Reached
+found_if true r e = with_found r e
+found_if false r e = r
+
+-- ---- these events are found
+
+abbrev pub on : RowKey → Event → Bool
+on key e = meet (Some key) (key_of e.kind)
+
+abbrev pub put_on : RowKey → Event → Bool
+put_on key e = on key e && is_put e
+
+pub record HasFound (r : Reached) (found : List Event) : Type 0 where
+  pub actors : (w : Writer) → is_some (fin.get r.numbers w) ≡ list_any (is_by w.0) found
+  pub numbers : (w : Writer) → or_zero (fin.get r.numbers w) ≡ length (filter (λ e. is_by w.0 e && is_logged e) found)
+  pub keys : (key : RowKey) → is_some (fin.get r.keys key) ≡ list_any (on key) found
+  pub puts : (key : RowKey) → or_false (fin.get r.keys key) ≡ list_any (put_on key) found
+
+-- ---- the list
+
+abbrev pub with_count : Writer → ℕ → List Count → List Count
+with_count w n counts = cond (nat_eq n 0) counts (record { writer = w; number = n } ∷ counts)
+
+abbrev pub counts_of : List (Writer × ℕ) → List Count
+counts_of [] = []
+counts_of (e ∷ es) = with_count e.0 e.1 (counts_of es)

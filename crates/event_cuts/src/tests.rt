@@ -1,5 +1,5 @@
 //! Worked cases of cuts, by hand.
-use crate::{map_at, rows_at};
+use crate::{full_vector, map_at, rows_at};
 use key_model::{Event, EventKind, EventList};
 use std::alloc::Global;
 use std::test::Fail;
@@ -20,12 +20,19 @@ const OTHER: Txn = Txn {
     number: 1,
 };
 
+const THIRD: Txn = Txn {
+    writer: Writer(3),
+    number: 1,
+};
+
 // What a transaction does, in the order of the list, by its own writer, at a stamp.
 #[derive(Drop)]
 enum Deed {
     Reads(Txn, &'static [u8]),
     Puts(Txn, u64, &'static [u8], Option<&'static [u8]>),
     Ends(Txn, u64, bool),
+    /// Another writer ends it, undone.
+    IsUndone(Txn, Writer),
 }
 
 fn value(alloc: Global, bytes: Option<&[u8]>) -> Result<Option<Value>, Fail> {
@@ -38,11 +45,11 @@ fn value(alloc: Global, bytes: Option<&[u8]>) -> Result<Option<Value>, Fail> {
 fn events(alloc: Global, deeds: &[Deed]) -> Result<EventList, Fail> {
     let mut events = EventList::new(alloc);
     for deed in deeds {
-        let (txn, stamp, kind) = match deed {
+        let (actor, stamp, kind) = match deed {
             Deed::Reads(txn, key) => {
                 let key = Key::new(alloc, key)?;
                 (
-                    *txn,
+                    txn.writer,
                     0,
                     EventKind::Read {
                         txn: *txn,
@@ -55,7 +62,7 @@ fn events(alloc: Global, deeds: &[Deed]) -> Result<EventList, Fail> {
                 let key = Key::new(alloc, key)?;
                 let value = value(alloc, *bytes)?;
                 (
-                    *txn,
+                    txn.writer,
                     *stamp,
                     EventKind::Put {
                         txn: *txn,
@@ -67,7 +74,7 @@ fn events(alloc: Global, deeds: &[Deed]) -> Result<EventList, Fail> {
             }
             Deed::Ends(txn, stamp, committed) => {
                 (
-                    *txn,
+                    txn.writer,
                     *stamp,
                     EventKind::End {
                         txn: *txn,
@@ -75,9 +82,17 @@ fn events(alloc: Global, deeds: &[Deed]) -> Result<EventList, Fail> {
                     },
                 )
             }
+            Deed::IsUndone(txn, actor) => (
+                *actor,
+                1,
+                EventKind::End {
+                    txn: *txn,
+                    committed: false,
+                },
+            ),
         };
         events.push(Event {
-            actor: txn.writer,
+            actor,
             seq: 0,
             stamp: Stamp(stamp),
             kind,
@@ -180,6 +195,53 @@ fn rows_at_cuts(rt: HostRuntime) -> Result<(), Fail> {
         assert_eq!(rt; one.row.txn, *txn);
         assert_eq!(rt; one.row.now, value(alloc, *now)?);
         assert_eq!(rt; one.row.before, *before);
+    }
+    Ok(())
+}
+
+/// A put of writer 3 that is reached from writer 1 through a read of writer 2 alone; reads that don't touch
+/// each other; and ends that touch a later put on a key of their transactions, as nothing else does.
+#[test]
+fn full_vectors(rt: HostRuntime) -> Result<(), Fail> {
+    let alloc = rt.alloc();
+    let chain = [
+        Deed::Puts(FIRST, 1, b"k", Some(b"a")),
+        Deed::Reads(OTHER, b"k"),
+        Deed::Puts(OTHER, 2, b"l", Some(b"b")),
+        Deed::Puts(THIRD, 3, b"l", Some(b"d")),
+        Deed::Puts(THIRD, 4, b"k", None),
+        Deed::Reads(FIRST, b"m"),
+        Deed::Reads(THIRD, b"m"),
+    ];
+    let ends = [
+        Deed::Puts(NEXT, 1, b"n", Some(b"a")),
+        Deed::Reads(FIRST, b"k"),
+        Deed::IsUndone(FIRST, Writer(3)),
+        Deed::Puts(OTHER, 1, b"l", Some(b"b")),
+        Deed::Puts(OTHER, 2, b"k", Some(b"d")),
+    ];
+    let chain = events(alloc, chain.as_slice())?;
+    let ends = events(alloc, ends.as_slice())?;
+    let cases: [(&EventList, usize, &[(u32, u32)]); 8] = [
+        (&chain, 0, &[(1, 1)]),
+        (&chain, 1, &[(1, 1)]),
+        (&chain, 2, &[(1, 1), (2, 1)]),
+        (&chain, 3, &[(1, 1), (2, 1), (3, 1)]),
+        (&chain, 4, &[(1, 1), (2, 1), (3, 2)]),
+        (&chain, 5, &[(1, 1)]),
+        (&ends, 3, &[(2, 1)]),
+        (&ends, 4, &[(1, 1), (2, 2), (3, 1)]),
+    ];
+    for (events, j, wanted) in cases.iter() {
+        if *j >= events.len() {
+            return Err(Fail::from("a place"));
+        }
+        let counts = full_vector(events, *j)?;
+        assert_eq!(rt; counts.len(), wanted.len());
+        for (count, pair) in counts.as_slice().iter().zip(wanted.iter()) {
+            assert_eq!(rt; count.writer, Writer(pair.0));
+            assert_eq!(rt; count.number, pair.1);
+        }
     }
     Ok(())
 }
