@@ -1,5 +1,5 @@
 -- A close and a recovery: the relation and the function are one.
-use Rattle.std.specs.Prelude.{◌≡◌, ◌≢◌, ◌⊎◌, ◌<◌, ℕ, zero, suc, List, [], ◌∷◌, length, Bool, true, false, cond, not, ◌&&◌, ◌||◌, Some, None, is_some, Contains}
+use Rattle.std.specs.Prelude.{◌≡◌, ◌⊎◌, ◌<◌, ℕ, zero, suc, List, [], ◌∷◌, length, Bool, true, false, cond, not, ◌&&◌, ◌||◌, Some, None, is_some, Contains}
 use Rattle.std.proofs.Common.{refl, sym, ◌∙◌, ap, subst, inl, inr, get_or, arith}
 use Rattle.std.specs.declared.option.Option.{Option}
 use Rattle.std.specs.declared.cmp.Ordering.TheVariants.{Equal}
@@ -8,14 +8,13 @@ use Rattle.std.specs.FinMap as fin
 use Rattle.std.specs.FinSet as sets
 use Rattle.tm_data.specs.declared.transaction.Txn.{Txn}
 use Rattle.tm_data.specs.declared.transaction.Writer.{Writer}
-use Rattle.tm_data.specs.declared.row_map.RowKey.{RowKey}
 use Rattle.tm_data.specs.Orders.{txn_cmp, txn_cmp-total, txn_cmp-exact}
 use Rattle.key_model.specs.declared.events.Ended.{Ended}
 use Rattle.key_model.specs.declared.events.PutKey.{PutKey}
 use Rattle.key_model.specs.State.{Open, State, DyingRow, dying_cmp, dying_cmp-total, dying_cmp-exact}
-use Rattle.key_model.specs.Steps.{row_of, SettlesIfOpen, SettleInTurn, IsOpenOf, Leaves, Closes, IsRecovered}
+use Rattle.key_model.specs.Steps.{SettlesIfOpen, SettleInTurn, IsOpenOf, Leaves, Closes, IsRecovered}
 use Rattle.key_model.specs.After.{same_writer, after_settled, settled_if_open, or_same, after_ends, is_open_of, locked_row, with_locked, left, after_closing, after_recovery}
-use Rattle.key_model.proofs.AnyLemmas.{true_or_false, not_both, same_truth, none_not_some, itself, equal}
+use Rattle.key_model.proofs.AnyLemmas.{true_or_false, not_both, same_truth, itself, equal}
 use Rattle.key_model.proofs.LawLemmas.{first_true, second_true, both_true, not_true, true_not, writer_is, writer_same, gives, needs, settles_to, settles_from}
 
 -- ---- lists

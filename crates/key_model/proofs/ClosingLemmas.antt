@@ -16,9 +16,9 @@ use Rattle.key_model.specs.declared.events.Ended.{Ended}
 use Rattle.key_model.specs.declared.events.PutKey.{PutKey}
 use Rattle.key_model.specs.declared.closing.Ending.{Ending}
 use Rattle.key_model.specs.State.{Open, State, DyingRow, dying_cmp}
-use Rattle.key_model.specs.Steps.{or_mapped, with_settled}
-use Rattle.key_model.specs.After.{same_writer, with_all, after_settled, settled_if_open, or_same, after_ends, is_open_of, locked_row, with_locked, left, where_allowed, told, after_closing, after_recovery}
-use Rattle.key_model.specs.Inside.{over, with_rows, no_ending, writes_with, with_ending, ending_if, all_ending, is_left, rows_left}
+use Rattle.key_model.specs.Steps.{or_mapped}
+use Rattle.key_model.specs.After.{same_writer, with_all, after_settled, or_same, after_ends, is_open_of, locked_row, with_locked, left, where_allowed, told, after_closing, after_recovery}
+use Rattle.key_model.specs.Inside.{over, with_rows, no_ending, writes_with, ending_if, all_ending, is_left, rows_left}
 use Rattle.key_model.proofs.PlaceLemmas.{get-kept, get-over_map}
 use Rattle.key_model.proofs.ValuedLemmas.{get-with_all}
 

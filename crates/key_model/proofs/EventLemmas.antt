@@ -1,16 +1,16 @@
 -- Lists of events: parts of them, and what touches a put.
-use Rattle.std.proofs.Common.{◌≡◌, ◌⊎◌, ℕ, Bool, true, false, cond, ◌&&◌, ◌||◌, List, [], ◌∷◌, ◌++◌, inl, inr, refl, sym, subst, ap, ◌∙◌}
-use Rattle.std.proofs.lemmas.Bool.{or_left, or_right, and_parts, and_from, cases_Bool}
-use Rattle.std.specs.List.{AllByRecursion, list_any, filter, filter_map, cons_option}
+use Rattle.std.proofs.Common.{◌≡◌, Bool, true, false, cond, ◌&&◌, ◌||◌, List, [], ◌∷◌, ◌++◌, refl, sym, subst, ap, ◌∙◌}
+use Rattle.std.proofs.lemmas.Bool.{or_left, or_right, and_from}
+use Rattle.std.specs.List.{AllByRecursion, list_any, filter, cons_option}
 use Rattle.std.specs.declared.option.Option.{Option}
 use Rattle.std.specs.declared.option.Option.TheVariants.{None, Some}
 use Rattle.tm_data.specs.declared.transaction.Txn.{Txn}
 use Rattle.tm_data.specs.declared.row_map.RowKey.{RowKey}
 use Rattle.key_model.specs.Steps.{row_of}
 use Rattle.key_model.specs.After.{same_txn, same_row}
-use Rattle.key_model.specs.Events.{Event, EventKind, Read, Put, End, logs, puts, key_of, concerns, ends, is_logged, is_put, is_of, is_end_of, is_by, has_end, meet, conflicts}
+use Rattle.key_model.specs.Events.{Event, EventKind, Read, Put, End, logs, puts, key_of, concerns, ends, is_logged, is_put, is_of, is_end_of, is_by, meet, conflicts}
 use Rattle.key_model.specs.Causes.{touches, touches_one, ends_conflict, joining, reaching}
-use Rattle.key_model.specs.Cuts.{Written, written, written_if, puts_on, wrote, wrote_last}
+use Rattle.key_model.specs.Cuts.{Written, written, written_if, puts_on, wrote}
 use Rattle.key_model.proofs.AnyLemmas.{some_is}
 use Rattle.key_model.proofs.LawLemmas.{txn_is, txn_same, row_is, row_same}
 

@@ -1,8 +1,8 @@
 -- At a closed cut of a clean list the map is the fold of the committed transactions.
-use Rattle.std.proofs.Common.{◌≡◌, ◌⊎◌, ℕ, Bool, true, false, cond, ◌&&◌, ◌||◌, List, [], ◌∷◌, ◌++◌, inl, inr, refl, sym, subst, ap, ◌∙◌, arith}
+use Rattle.std.proofs.Common.{◌≡◌, ◌⊎◌, ℕ, Bool, true, false, cond, ◌&&◌, ◌||◌, List, [], ◌∷◌, inl, inr, refl, sym, subst, ap, ◌∙◌, arith}
 use Rattle.std.proofs.lemmas.Bool.Decides.{nat_tests}
 use Rattle.std.proofs.lemmas.Bool.{or_parts, or_left, or_right, and_parts, and_from, cases_Bool, false_from_ne_true}
-use Rattle.std.specs.List.{AllByRecursion, list_any, filter, filter_map, cons_option}
+use Rattle.std.specs.List.{AllByRecursion, list_any, filter, cons_option}
 use Rattle.std.specs.declared.option.Option.{Option}
 use Rattle.std.specs.declared.option.Option.TheVariants.{None, Some}
 use Rattle.tm_data.specs.declared.transaction.Txn.{Txn}
@@ -11,10 +11,10 @@ use Rattle.tm_data.specs.declared.transaction.Stamp.{Stamp}
 use Rattle.tm_data.specs.declared.row_map.RowKey.{RowKey}
 use Rattle.key_model.specs.Steps.{row_of, or_mapped}
 use Rattle.key_model.specs.After.{same_txn, same_row}
-use Rattle.key_model.specs.Events.{Event, EventKind, Read, Put, End, logs, puts, key_of, concerns, ends, is_logged, is_put, is_of, is_end_of, is_by, has_end, conflicts}
-use Rattle.key_model.specs.Causes.{touches, reaching}
-use Rattle.key_model.specs.Cuts.{Cut, is_in, mark_of, IsIn, IsClosed, gathered, within, Written, written, written_if, puts_on, wrote, wrote_last, value_after, value_before, Restores, value_by, value_at, made, entered, folded, folded_at, last_ended, last_ended_at}
-use Rattle.key_model.specs.Clean.{IsOpen, MayEnd, IsOver, MayPut, MayFollow, CleanFrom, IsClean}
+use Rattle.key_model.specs.Events.{Event, EventKind, Read, Put, End, is_logged, is_of, is_end_of, is_by, has_end, conflicts}
+use Rattle.key_model.specs.Causes.{touches}
+use Rattle.key_model.specs.Cuts.{Cut, is_in, mark_of, IsIn, IsClosed, gathered, Written, written, written_if, puts_on, wrote, wrote_last, value_after, value_before, Restores, value_by, value_at, made, folded, folded_at, last_ended, last_ended_at}
+use Rattle.key_model.specs.Clean.{MayEnd, IsOver, MayPut, MayFollow, CleanFrom, IsClean}
 use Rattle.key_model.proofs.LawLemmas.{txn_is, txn_same, row_is, row_same}
 use Rattle.key_model.proofs.EventLemmas.{onto, onto_append, all_onto, any_onto, all_map, any_kept, none_kept, direct, IsPutOn, is_put_on, put_touches, wrote_conflicts, end_touches, end_logged}
 

@@ -1,6 +1,6 @@
 -- The relation of the steps and the function are one.
-use Rattle.std.specs.Prelude.{◌≡◌, ◌≢◌, ◌⊎◌, ℕ, List, [], ◌∷◌, Bool, true, false, not, ◌&&◌, Some, None, is_some, is_none}
-use Rattle.std.proofs.Common.{refl, sym, ◌∙◌, ap, subst, inl, inr}
+use Rattle.std.specs.Prelude.{◌≡◌, ◌≢◌, ℕ, List, Bool, true, false, not, ◌&&◌, Some, None, is_some, is_none}
+use Rattle.std.proofs.Common.{refl, sym, ◌∙◌, ap}
 use Rattle.std.specs.declared.option.Option.{Option}
 use Rattle.std.specs.Cmp.{unsigned_Decides}
 use Rattle.std.specs.Cmp.Lexicographic.{pointwise_decides}
@@ -14,12 +14,9 @@ use Rattle.tm_base.specs.declared.command.Command.{Command}
 use Rattle.tm_base.specs.declared.command.Command.TheVariants as command
 use Rattle.tm_base.specs.declared.reply.Reply.{Reply}
 use Rattle.tm_base.specs.declared.reply.Reply.TheVariants as reply
-use Rattle.key_model.specs.declared.step.MachineStep.{MachineStep}
-use Rattle.key_model.specs.declared.step.MachineStep.TheVariants.{Answered, Settle}
 use Rattle.key_model.specs.State.{Open, State, session_cmp-total, session_cmp-exact, dying_cmp-total, dying_cmp-exact}
-use Rattle.key_model.specs.Steps.{at, row_of, txn_in, OpenTxn, open_txn, NeverBegun, NoOtherWrote, NoOtherRead, NoneDying, IsDoomed, or_mapped, seen, IsBegun, IsValue, IsDone, IsEnded, Recovers, Answers, says_end, AnswersDoomed, AnswersLiving, Settles, Steps, Run, with_begun, with_settled}
-use Rattle.key_model.specs.After.{same_writer, same_txn, same_row, same_value, same_outcome, is_fresh, other_wrote, other_read, has_dying, is_doomed, where_allowed, may_begin, after_begun, may_see, after_value, may_write, after_done, has_ended, after_ended, after_recovered, after_answer, answered, with_all, after_settled, after, after_all, told}
-use Rattle.key_model.specs.Took.{Took}
+use Rattle.key_model.specs.Steps.{at, row_of, txn_in, OpenTxn, open_txn, NeverBegun, NoOtherWrote, NoOtherRead, NoneDying, IsDoomed, or_mapped, seen, IsBegun, IsValue, IsDone, IsEnded, Recovers, Answers, Settles, with_begun, with_settled}
+use Rattle.key_model.specs.After.{same_writer, same_txn, same_row, same_value, same_outcome, is_fresh, other_wrote, other_read, has_dying, is_doomed, where_allowed, may_begin, after_begun, may_see, after_value, may_write, after_done, has_ended, after_ended, after_recovered, after_answer, with_all, after_settled}
 use Rattle.key_model.proofs.AnyLemmas.{true_or_false, not_both, some_is, none_not_some, each_fails, none_passes, each_item_fails, no_item_passes}
 use Rattle.key_model.proofs.ValuedLemmas.{get-with_all}
 

@@ -1,13 +1,13 @@
 -- Places, of which an empty one counts as nothing, and what they stand for.
-use Rattle.std.specs.Prelude.{◌≡◌, ℕ, List, [], ◌∷◌, Bool, true, false, cond, not, ◌&&◌, ◌||◌, T, Some, None, Ok, Err, IsSome, is_some, is_none, filter, OnOk, OnErr}
+use Rattle.std.specs.Prelude.{◌≡◌, List, [], ◌∷◌, Bool, true, false, cond, ◌&&◌, ◌||◌, T, Some, None, Ok, Err, IsSome, is_some, is_none, filter, OnOk, OnErr}
 use Rattle.std.proofs.Common.{refl, sym, ◌∙◌, ap, subst, Bor}
 use Rattle.std.specs.declared.cmp.Ordering.{Ordering}
-use Rattle.std.specs.declared.cmp.Ordering.TheVariants.{Less, Equal, Greater}
+use Rattle.std.specs.declared.cmp.Ordering.TheVariants.{Equal}
 use Rattle.std.specs.declared.option.Option.{Option}
 use Rattle.std.specs.declared.result.Result.{Result}
 use Rattle.std.specs.Option.{option_copied, option_or}
 use Rattle.std.specs.Ordering.{eq_by_cmp}
-use Rattle.std.specs.Cmp.{IsTotalOrder, Equal-is}
+use Rattle.std.specs.Cmp.{IsTotalOrder}
 use Rattle.std.specs.BTreeMap.{BTreeMap}
 use Rattle.std.specs.FinMap.{FinMap, IsAntisymmetric, entries, entries_sorted, find, get, insert, remove, retain_keys, empty, get-entries, get-from_entries, get-insert, get-remove, get-retain_keys, same_map, is_sorted, from_entries}
 use Rattle.std.specs.FinSet as sets
@@ -15,7 +15,7 @@ use Rattle.tm_data.specs.Maps.{as_map, entries-empty}
 use Rattle.std.specs.Map.{keys_of}
 use Rattle.std.specs.List.{list_any}
 use Rattle.key_model.specs.Inside.{keep, kept, valued, there, HasAll, over}
-use Rattle.key_model.proofs.AnyLemmas.{none_below, first_of_both, second_of_both, true_or_false, not_both, equal, itself}
+use Rattle.key_model.proofs.AnyLemmas.{none_below, first_of_both, second_of_both, not_both, equal, itself}
 
 -- a value, where there is a place that isn't empty
 abbrev pub or_gone : {X : Type 0} → Option (Option X) → Option X

@@ -1,22 +1,18 @@
 -- Places and their values.
-use Rattle.std.specs.Prelude.{◌≡◌, ℕ, List, [], ◌∷◌, Bool, true, false, cond, T, Some, None, Ok, Err, IsSome, is_some, is_none, OnOk, OnErr}
+use Rattle.std.specs.Prelude.{◌≡◌, ℕ, List, [], ◌∷◌, Bool, true, false, cond, T, Some, None, IsSome, is_some}
 use Rattle.std.proofs.Common.{refl, sym, ◌∙◌, ap, subst}
 use Rattle.std.specs.declared.cmp.Ordering.{Ordering}
 use Rattle.std.specs.declared.cmp.Ordering.TheVariants.{Less, Equal, Greater}
 use Rattle.std.specs.declared.option.Option.{Option}
-use Rattle.std.specs.declared.result.Result.{Result}
-use Rattle.std.proofs.Common.{Bor}
-use Rattle.std.specs.Option.{option_copied}
 use Rattle.std.specs.List.{AllByRecursion}
 use Rattle.std.specs.List.Sorted.{IsStrictlySortedBy}
 use Rattle.std.specs.Map.{keys_of}
 use Rattle.std.specs.Ordering.{eq_by_cmp, is_eq, is_lt}
-use Rattle.std.specs.Cmp.{Equal-is, tied_itself}
-use Rattle.std.specs.FinMap.{FinMap, entries, entries_sorted, find, get, insert, remove, empty, get-entries, get-from_entries, get-insert, get-remove, same_map, is_sorted, from_entries}
+use Rattle.std.specs.FinMap.{FinMap, entries, entries_sorted, find, get, insert, remove, get-insert, get-remove, is_sorted}
 use Rattle.std.specs.FinMap.Entries.{below_all}
 use Rattle.tm_data.specs.declared.row_map.RowKey.{RowKey}
 use Rattle.tm_data.specs.Orders.{row_cmp, row_cmp-total, row_cmp-exact}
-use Rattle.tm_data.specs.Maps.{entries-empty, entries-from_entries}
+use Rattle.tm_data.specs.Maps.{entries-from_entries}
 use Rattle.key_model.specs.Inside.{keep, kept, valued, HasPlace, HasPlaces}
 use Rattle.key_model.specs.Steps.{or_mapped}
 use Rattle.key_model.specs.After.{with_written, with_all}

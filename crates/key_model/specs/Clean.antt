@@ -4,9 +4,8 @@ use Rattle.std.specs.List.{AllByRecursion}
 use Rattle.tm_data.specs.declared.transaction.Txn.{Txn}
 use Rattle.tm_data.specs.declared.row_map.RowKey.{RowKey}
 use Rattle.key_model.specs.Steps.{row_of}
-use Rattle.key_model.specs.After.{same_txn}
 use Rattle.key_model.specs.Events.{Event, EventKind, Read, Put, End, is_of, is_by, has_end}
-use Rattle.key_model.specs.Cuts.{Cut, IsClosed, Written, value_at, folded_at, puts_on, wrote, wrote_last, value_after, value_before, Restores}
+use Rattle.key_model.specs.Cuts.{Cut, IsClosed, Written, value_at, folded_at, puts_on, wrote, wrote_last, Restores}
 
 -- What each event of a clean list wants of those before it, the last of which comes first.
 

@@ -1,5 +1,5 @@
 -- Cuts through an event list, and the rows and the map at a cut.
-use Rattle.std.specs.Prelude.{◌≡◌, ℕ, Bool, true, false, cond, ◌&&◌, ◌||◌, nat_le, List, [], ◌∷◌, ◌++◌, filter_map}
+use Rattle.std.specs.Prelude.{◌≡◌, ℕ, Bool, true, false, cond, ◌&&◌, nat_le, List, [], ◌∷◌, ◌++◌, filter_map}
 use Rattle.std.specs.List.{AllByRecursion, list_any}
 use Rattle.std.specs.declared.option.Option.{Option}
 use Rattle.std.specs.declared.option.Option.TheVariants.{None, Some}
@@ -12,7 +12,7 @@ use Rattle.tm_data.specs.declared.vector.VectorEntry.{VectorEntry}
 use Rattle.tm_data.specs.Vectors.{stamp_of}
 use Rattle.key_model.specs.Steps.{row_of, or_mapped}
 use Rattle.key_model.specs.After.{same_txn, same_row, same_value}
-use Rattle.key_model.specs.Events.{Event, EventKind, Read, Put, End, is_logged, is_by, has_end}
+use Rattle.key_model.specs.Events.{Event, EventKind, Read, Put, End, is_logged, has_end}
 use Rattle.key_model.specs.Causes.{reaching}
 
 -- ---- cuts

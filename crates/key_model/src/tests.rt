@@ -166,3 +166,73 @@ fn rows_go_and_stay(rt: HostRuntime) -> Result<(), Fail> {
     assert_eq!(rt; entry.key.as_slice(), b"a".as_slice());
     Ok(())
 }
+
+// The same step in session 2.
+fn second(step: MachineStep) -> MachineStep {
+    match step {
+        MachineStep::Answered {
+            writer,
+            session: _,
+            command,
+            reply,
+        } => MachineStep::Answered {
+            writer,
+            session: 2,
+            command,
+            reply,
+        },
+        other => other,
+    }
+}
+
+// The close of writer 1: FIRST has its commit in the log, and the open transaction has put `b`.
+fn closes(alloc: Global, open: Txn) -> Mem<MachineStep> {
+    let mut ends = EndList::new(alloc);
+    ends.push(Ended {
+        txn: FIRST,
+        committed: true,
+    })?;
+    let mut puts = PutList::new(alloc);
+    puts.push(PutKey {
+        txn: open,
+        table: 1,
+        key: ByteList::from_slice(alloc, b"b")?,
+    })?;
+    Ok(MachineStep::Close {
+        writer: Writer(1),
+        ends,
+        puts,
+    })
+}
+
+/// At a writer's close, what ended in its log is settled and the rest leaves its keys locked; a recovery
+/// frees them, and only a closed writer is recovered.
+#[test]
+fn a_closed_writer_leaves_its_rows(rt: HostRuntime) -> Result<(), Fail> {
+    let alloc = rt.alloc();
+    let mut machine = Machine::new(alloc);
+    let next = Txn {
+        writer: Writer(1),
+        number: 2,
+    };
+    let Ok(written) = put(alloc, 1, b"b", b"2") else {
+        return Err(Fail::from("a step"));
+    };
+    let steps = [
+        (Ok(begun(FIRST)), true),
+        (put(alloc, 1, b"a", b"1"), true),
+        (Ok(second(begun(next))), true),
+        (Ok(second(written)), true),
+        (Ok(MachineStep::Recover { writer: Writer(1) }), false),
+        (closes(alloc, next), true),
+        (closes(alloc, next), false),
+        (Ok(begun(SECOND)), true),
+        (told(alloc, 2, b"a", Some(b"1")), true),
+        (told(alloc, 2, b"b", None), false),
+        (put(alloc, 2, b"b", b"3"), false),
+        (Ok(MachineStep::Recover { writer: Writer(1) }), true),
+        (told(alloc, 2, b"b", None), true),
+        (Ok(committed(FIRST)), true),
+    ];
+    run(&mut machine, steps.as_slice())
+}

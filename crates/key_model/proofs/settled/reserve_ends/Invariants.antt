@@ -2,7 +2,7 @@ use Rattle.std.proofs.Common.{◌≡◌}
 use Rattle.std.specs.FinMap as fin
 use Rattle.std.specs.Map.{keys_of}
 use Rattle.tm_data.specs.Orders.{txn_cmp-total, txn_cmp-exact}
-use Rattle.key_model.specs.Inside.{valued, HasAll}
+use Rattle.key_model.specs.Inside.{valued}
 use Rattle.key_model.proofs.PlaceLemmas.{Reserves}
 use Rattle.key_model.proofs.settled.reserve_ends.Given as goal
 

@@ -1,9 +1,8 @@
 use Rattle.std.proofs.Common.{◌∙◌, sym, ap}
 use Rattle.std.specs.FinMap as fin
-use Rattle.std.specs.FinSet as sets
 use Rattle.tm_data.specs.Maps.{entries-as_map}
-use Rattle.key_model.specs.State.{dying_cmp-total, dying_cmp-exact}
-use Rattle.key_model.specs.Inside.{there, locks_in}
+use Rattle.key_model.specs.State.{dying_cmp-total}
+use Rattle.key_model.specs.Inside.{locks_in}
 use Rattle.key_model.proofs.DyingLemmas.{locks_there}
 use Rattle.key_model.proofs.closed.DyingMap.locks.Goals as goal
 

@@ -1,6 +1,6 @@
 use Rattle.std.proofs.Common.{◌≡◌, drop}
 use Rattle.key_model.specs.State.{dying_cmp-total, dying_cmp-exact}
-use Rattle.key_model.specs.Inside.{there, HasAll}
+use Rattle.key_model.specs.Inside.{there}
 use Rattle.key_model.proofs.PlaceLemmas.{Reserves}
 use Rattle.key_model.proofs.closed.DyingMap.reserve.Given as goal
 

@@ -1,11 +1,11 @@
-use Rattle.std.proofs.Common.{◌≡◌, ◌∙◌, sym, ap, rules}
+use Rattle.std.proofs.Common.{◌≡◌, ◌∙◌, ap, rules}
 use Rattle.std.specs.Prelude.{false}
 use Rattle.std.specs.FinMap as fin
 use Rattle.std.specs.FinSet as sets
 use Rattle.key_model.specs.State.{State}
 use Rattle.key_model.specs.After.{with_all, told, after_closing}
 use Rattle.key_model.specs.Inside.{valued, there, over, with_rows}
-use Rattle.key_model.proofs.ClosingLemmas.{closed_by, close_is, closed_told}
+use Rattle.key_model.proofs.ClosingLemmas.{close_is, closed_told}
 use Rattle.key_model.proofs.machine.Machine.close.Goals as goal
 
 pub returns-clause-ok : goal.returns-clause-ok

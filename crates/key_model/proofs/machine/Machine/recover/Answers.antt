@@ -1,7 +1,7 @@
-use Rattle.std.proofs.Common.{◌≡◌, ◌∙◌, sym, ap, rules}
+use Rattle.std.proofs.Common.{◌≡◌, ◌∙◌, ap, rules}
 use Rattle.std.specs.Prelude.{true, not}
 use Rattle.std.specs.FinSet as sets
-use Rattle.key_model.specs.State.{State, DyingRow, dying_cmp-total, dying_cmp-exact}
+use Rattle.key_model.specs.State.{State, dying_cmp-total, dying_cmp-exact}
 use Rattle.key_model.specs.After.{same_writer, told, after_recovery}
 use Rattle.key_model.specs.Inside.{valued, there}
 use Rattle.key_model.proofs.PlaceLemmas.{there-retain}

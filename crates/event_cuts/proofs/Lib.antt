@@ -1,0 +1,4 @@
+mod CountLemmas
+mod FoundLemmas
+mod ListLemmas
+mod PutLemmas

@@ -1,0 +1,11 @@
+use Rattle.std.proofs.Common.{◌++◌}
+use Rattle.key_model.specs.Cuts.{of_vector}
+use Rattle.event_cuts.specs.Lists.{AreRowsAt}
+use Rattle.event_cuts.specs.Inside.{rows_of}
+use Rattle.event_cuts.proofs.lists.rows_at.Given as goal
+
+abbrev pub invariant-loop-key : goal.invariant-loop-key
+invariant-loop-key l =
+    (goal.iterator-loop-key).can_next l.key-iterator ×
+    (goal.iterator-loop-key).is_finite l.key-iterator ×
+    AreRowsAt l.events (of_vector l.cut) (l.rows ++ rows_of l.key-iterator)
