@@ -1,0 +1,10 @@
+mod Writes
+mod Segments
+mod Filters
+mod Sides
+mod Tables
+mod Added
+mod Walks
+mod Places
+mod Views
+mod Values

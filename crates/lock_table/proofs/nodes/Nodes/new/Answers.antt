@@ -1,0 +1,16 @@
+use Rattle.std.proofs.Common.{List, ap, ◌∙◌}
+use Rattle.std.specs.Prelude.{slice_index_or}
+use Rattle.std.specs.declared.option.Option.{Option}
+use Rattle.std.specs.declared.option.Option.TheVariants.{None}
+use Rattle.std.specs.Ordering.{nat_cmp}
+use Rattle.std.specs.FinMap.{FinMap, get, get-empty}
+use Rattle.tm_data.specs.Orders.{txn_cmp}
+use Rattle.lock_table.specs.declared.heads.Head.{Head}
+use Rattle.lock_table.specs.declared.node.Node.{Node}
+use Rattle.lock_table.proofs.Tables.{none_stand}
+use Rattle.lock_table.proofs.nodes.Nodes.new.Goals as goal
+
+pub returns : goal.returns
+returns c =
+    none_stand c.new.result c.new-2.result c.new-3.result (λ k. ap (λ (xs : List (Option Node)). slice_index_or xs k None) c.new.ensures.empty)
+    (λ p. ap (λ (m : FinMap nat_cmp Head). get m p) c.new-2.ensures ∙ get-empty nat_cmp p) (λ x. ap (λ (m : FinMap txn_cmp Head). get m x) c.new-3.ensures ∙ get-empty txn_cmp x)

@@ -1,0 +1,224 @@
+//! The nodes of all tags, with their lists.
+ghost use Rattle.std.specs.Prelude.{◌≡◌, ◌+◌, ◌++◌, ◌∷◌, [], List, Some, OnOk, filter};
+ghost use Rattle.std.specs.Option.{option_copied};
+ghost use Rattle.slab.specs.Slab as slab;
+ghost use Rattle.std.specs.List.{AllByRecursion};
+ghost use Rattle.slab.specs.Slab.{ContainsKey};
+ghost use Rattle.std.specs.FinMap as map;
+ghost use Rattle.lock_table.specs.Tags.{PageTag, tag_of, tag_cmp, page_tag};
+ghost use Rattle.lock_table.specs.Inside.{Entry, Stand, IsList, tag_in, tag_at, link_at, head_in, kept, shorter, gap_of, upto, from, on, Lacks, IsOpen, IsSame, is_tag, at_place};
+
+use crate::heads::{Head, PageHeads, set_txn};
+use crate::node::{Link, Node, Side, rejoin};
+use slab::Slab;
+use std::alloc::Global;
+use std::cmp::Ordering;
+use std::sync::ledger::Ledger;
+use tm_base::{Key, Mem, NoMemory, Page, Steps, Tag, Txn, TxnMap};
+
+/// All tags, each a node of the slab, which stands in the list of its page and in that of its transaction.
+#[derive(Drop)]
+pub(crate) struct Nodes {
+    slab: Slab<Node>,
+    pages: PageHeads,
+    txns: TxnMap<Head>,
+}
+
+// A list of more tags takes no further one: no memory has room for so many.
+const MOST: usize = usize::MAX - 1;
+
+/// The head of a list, also of one that isn't there.
+fn or_empty(head: Option<Head>) -> Head
+    ensures { result ≡ head_in head }
+{
+    match head {
+        Some(head) => head,
+        None => Head {
+            first: None,
+            count: 0,
+        },
+    }
+}
+
+/// A page's list has lost a node whose links were these.
+fn shorten_page(pages: &mut PageHeads, page: u32, link: Link)
+    ensures { pages.new ≡ kept pages.old page (shorter (head_in (map.get pages.old page)) link) }
+{
+    let head = or_empty(pages.get(page));
+    match head.without(link) {
+        Some(head) => pages.set(page, head),
+        None => pages.remove(page),
+    }
+}
+
+/// A transaction's list has lost a node whose links were these.
+fn shorten_txn(txns: &mut TxnMap<Head>, txn: Txn, link: Link)
+    ensures { txns.new ≡ kept txns.old txn (shorter (head_in (map.get txns.old txn)) link) }
+{
+    let head = or_empty(txns.get(&txn).copied());
+    match head.without(link) {
+        Some(head) => set_txn(txns, txn, head),
+        None => {
+            txns.remove(&txn);
+        }
+    }
+}
+
+/// How the tag of a node compares with this one: by page, then by key, then by transaction.
+fn compare(node: &Node, page: Page, key: &Key, txn: Txn) -> Ordering
+    ensures { result ≡ tag_cmp (tag_in node.now) (page_tag page.0 key.now txn) }
+{
+    let by_key = node.tag.key.cmp(key).then(node.tag.txn.cmp(&txn));
+    node.page.cmp(&page).then(by_key)
+}
+
+/// The gap of a list in front of the first tag that isn't below this one.
+fn gap(nodes: &Slab<Node>, side: Side, head: Head, page: Page, key: &Key, txn: Txn) -> Link
+    ensures { (es : List Entry) → IsList (link_at side nodes.now) head es → AllByRecursion (λ e. tag_at nodes.now e.0 ≡ Some e.1) es
+        → result ≡ gap_of (upto (page_tag page.0 key.now txn) es) (from (page_tag page.0 key.now txn) es) }
+{
+    let mut prev = None;
+    let mut next = head.first;
+    for _ in 0..head.count {
+        let Some(at) = next else {
+            return Link { prev, next };
+        };
+        let Some(node) = nodes.get(at) else {
+            return Link { prev, next };
+        };
+        if compare(node, page, key, txn).is_ge() {
+            return Link { prev, next };
+        }
+        prev = next;
+        next = node.link(side).next;
+    }
+    Link { prev, next }
+}
+
+impl Nodes {
+    /// No tags.
+    pub(crate) fn new(alloc: Global) -> Nodes
+        ensures { Stand result [] }
+    {
+        Nodes {
+            slab: Slab::new(alloc),
+            pages: PageHeads::new(alloc),
+            txns: TxnMap::new(alloc),
+        }
+    }
+
+    /// The first node on a page.
+    pub(crate) fn first_on(&self, page: Page) -> Option<usize>
+        ensures { result ≡ (head_in (map.get self.now.pages page.0)).first }
+    {
+        or_empty(self.pages.get(page.0)).first
+    }
+
+    /// How many nodes a page has.
+    pub(crate) fn count_on(&self, page: Page) -> usize
+        ensures { result ≡ (head_in (map.get self.now.pages page.0)).count }
+    {
+        or_empty(self.pages.get(page.0)).count
+    }
+
+    /// The first node of a transaction.
+    pub(crate) fn first_of(&self, txn: Txn) -> Option<usize>
+        ensures { result ≡ (head_in (map.get self.now.txns txn)).first }
+    {
+        or_empty(self.txns.get(&txn).copied()).first
+    }
+
+    /// The node at a place.
+    pub(crate) fn get(&self, at: usize) -> Option<&Node>
+        ensures { option_copied result ≡ slab.get self.now.slab at }
+    {
+        self.slab.get(at)
+    }
+
+    /// Where a tag has its place in the list of its page: in front of the first one that isn't below it.
+    pub(crate) fn place(&self, page: Page, key: &Key, txn: Txn) -> Link
+        ensures { (es : List Entry) → Stand self.now es
+            → result ≡ gap_of (upto (page_tag page.0 key.now txn) (filter (on page.0) es)) (from (page_tag page.0 key.now txn) (filter (on page.0) es)) }
+    {
+        let head = or_empty(self.pages.get(page.0));
+        gap(&self.slab, Side::Page, head, page, key, txn)
+    }
+
+    /// Whether the tag at a place is this one.
+    pub(crate) fn holds(&self, at: Option<usize>, page: Page, key: &Key, txn: Txn) -> bool
+        ensures { result ≡ is_tag (page_tag page.0 key.now txn) (at_place self.now.slab at) }
+    {
+        let Some(at) = at else {
+            return false;
+        };
+        let Some(node) = self.slab.get(at) else {
+            return false;
+        };
+        compare(node, page, key, txn).is_eq()
+    }
+
+    /// Makes room for one more tag of a transaction on a page. With want of memory nothing changes.
+    pub(crate) fn open(&mut self, page: Page, txn: Txn) -> Mem<()>
+        ensures same { IsSame self.old self.new }
+        ensures ok { OnOk result (IsOpen self.new page.0 txn) }
+    {
+        let before = self.pages.get(page.0);
+        let page_head = or_empty(before);
+        let txn_head = or_empty(self.txns.get(&txn).copied());
+        if page_head.count > MOST || txn_head.count > MOST {
+            return Err(NoMemory);
+        }
+        self.slab.reserve(1)?;
+        self.pages.put(page.0, page_head)?;
+        let Ok(_) = self.txns.insert(txn, txn_head) else {
+            if let None = before {
+                self.pages.remove(page.0);
+            }
+            return Err(NoMemory);
+        };
+        Ok(())
+    }
+
+    /// Puts a tag that isn't there into its place, for which there is room.
+    pub(crate) fn insert(&mut self, page: Page, tag: Tag, on_page: Link)
+        requires { IsOpen self.old page.0 tag.txn }
+        ensures { (es : List Entry) → Stand self.old es
+            → on_page ≡ gap_of (upto (page_tag page.0 tag.key tag.txn) (filter (on page.0) es)) (from (page_tag page.0 tag.key tag.txn) (filter (on page.0) es))
+            → Lacks (page_tag page.0 tag.key tag.txn) es
+            → Stand self.new (upto (page_tag page.0 tag.key tag.txn) es ++ (self.old.slab.vacant_key, page_tag page.0 tag.key tag.txn) ∷ from (page_tag page.0 tag.key tag.txn) es) }
+    {
+        let txn = tag.txn;
+        let page_head = or_empty(self.pages.get(page.0));
+        let txn_head = or_empty(self.txns.get(&txn).copied());
+        let of_txn = gap(&self.slab, Side::Txn, txn_head, page, &tag.key, txn);
+        let key = self.slab.insert_reserved(Node {
+            page,
+            tag,
+            on_page,
+            of_txn,
+        });
+        let link = Link {
+            prev: Some(key),
+            next: Some(key),
+        };
+        rejoin(&mut self.slab, Side::Page, on_page, link);
+        rejoin(&mut self.slab, Side::Txn, of_txn, link);
+        self.pages.set(page.0, page_head.with(key, on_page));
+        set_txn(&mut self.txns, txn, txn_head.with(key, of_txn));
+    }
+
+    /// Takes a node out of both of its lists and out of the slab, which is one step.
+    pub(crate) fn remove<L: Ledger>(&mut self, key: usize, steps: &mut Steps<L>) -> Tag
+        requires { ContainsKey self.old.slab key }
+        ensures step { steps.new ≡ steps.old + 1 }
+        ensures removed { (xs ys : List Entry) (t : PageTag) → Stand self.old (xs ++ (key, t) ∷ ys) → (result ≡ tag_of t) × Stand self.new (xs ++ ys) }
+    {
+        let node = self.slab.remove(key);
+        rejoin(&mut self.slab, Side::Page, node.on_page, node.on_page);
+        rejoin(&mut self.slab, Side::Txn, node.of_txn, node.of_txn);
+        shorten_page(&mut self.pages, node.page.0, node.on_page);
+        shorten_txn(&mut self.txns, node.tag.txn, node.of_txn);
+        steps.tick();
+        node.tag
+    }
+}
