@@ -1,9 +1,6 @@
 -- What a message does at the node that it is delivered to, and what a node does on a tick.
-use Rattle.std.specs.Prelude.{ℕ, ◌+◌, ◌-◌, ◌%◌, Bool, true, false, cond, not, ◌&&◌, ◌||◌, nat_eq, nat_lt, List, [], ◌∷◌, ◌++◌, filter, length, slice_get, Result, Ok, Err}
-use Rattle.std.specs.List.{list_any}
-use Rattle.std.specs.Ordering.{nat_cmp}
+use Rattle.std.specs.Prelude.{ℕ, ◌+◌, ◌-◌, ◌%◌, true, cond, ◌&&◌, nat_eq, nat_lt, List, [], ◌∷◌, ◌++◌, length, slice_get, Result, Ok, Err}
 use Rattle.std.specs.FinMap as fin
-use Rattle.std.specs.FinSet as sets
 use Rattle.std.specs.declared.option.Option.{Option}
 use Rattle.std.specs.declared.option.Option.TheVariants.{None, Some}
 use Rattle.tm_data.specs.declared.image.Image.{Image}
@@ -16,7 +13,6 @@ use Rattle.tm_base.specs.declared.message.Node.TheVariants.{Master, LogStore, Pa
 use Rattle.tm_base.specs.declared.message.Note.{Note}
 use Rattle.tm_base.specs.declared.message.Note.TheVariants as note
 use Rattle.tm_base.specs.declared.message.RosterEntry.{RosterEntry}
-use Rattle.tm_base.specs.declared.step.Outcome.{Outcome}
 use Rattle.tm_base.specs.declared.step.Outcome.TheVariants as outcome
 use Rattle.page_image.specs.Spelling.{image_bytes}
 use Rattle.log_record.specs.Spelling.{group_bytes}
@@ -30,14 +26,14 @@ use Rattle.master_model.specs.State as master
 use Rattle.master_model.specs.Step as master_step
 use Rattle.replica_model.specs.State as replica
 use Rattle.replica_model.specs.Step as replica_step
-use Rattle.store_model.specs.declared.front.Front.{Front}
-use Rattle.store_model.specs.LogState.{Log, LogStoreState, log_of}
-use Rattle.store_model.specs.LogState as log_state
+use Rattle.store_model.specs.LogState.{LogStoreState}
+use Rattle.store_model.specs.LogStarts.{is_journalled}
 use Rattle.store_model.specs.LogStep as log_step
 use Rattle.store_model.specs.PageState.{PageStoreState}
 use Rattle.store_model.specs.PageState as page_state
 use Rattle.store_model.specs.PageStep as page_step
-use Rattle.world_model.specs.Disk.{Disk, Worked, appended, appended_all}
+use Rattle.store_model.specs.PageWhole.{part_of}
+use Rattle.world_model.specs.Disk.{Worked, appended, appended_all}
 use Rattle.world_model.specs.Past.{lived, managed, with_answer}
 use Rattle.world_model.specs.World.{World, Past, Effect, Item, Part, Kept, log_disk_of, shelf_of, shows}
 
@@ -82,17 +78,6 @@ lock_takes w m (Some s) =
 
 -- ---- a log store
 
--- A message is kept that brings the next group, and one by which a log is sealed.
-abbrev pub seals : LogStoreState → RosterEntry → Bool
-seals s e = not (page_state.is_live e.state) && not (log_of s e.writer.0).is_sealed
-
-abbrev pub is_journalled : LogStoreState → LogStoreState → Note → Bool
-is_journalled old new (note.Append g) = nat_lt (length (log_of old g.writer.0).groups) (length (log_of new g.writer.0).groups)
-is_journalled old new (note.Seal writer) = not (log_of old writer.0).is_sealed
-is_journalled old new (note.Closed writer most store) = not (log_of old writer.0).is_sealed
-is_journalled old new (note.Roster entries) = list_any (seals old) entries
-is_journalled old new other = false
-
 abbrev pub log_keeps : World → ℕ → LogStoreState → List Message → Worked Message → Effect
 log_keeps w number new messages kept =
     let after = record w { log_disk = fin.insert w.log_disk number kept.disk } in
@@ -108,14 +93,6 @@ log_takes w number m (Some s) =
     (cond (is_journalled s new m.note) (appended message_size (log_disk_of w number) m) (record { disk = log_disk_of w number; done = true }))
 
 -- ---- a page store
-
--- Of a group the records on the store's pages.
-abbrev pub is_on : ℕ → ℕ → Option ℕ → Bool
-is_on number stores None = false
-is_on number stores (Some page) = page_state.is_of number stores page
-
-abbrev pub part_of : ℕ → ℕ → Group → Group
-part_of number stores g = record g { records = filter (λ r. is_on number stores (page_of r)) g.records }
 
 -- A page's version at its greatest stamp is kept where its records have come to a multiple of 64.
 abbrev pub kept_version : Result Image Fault → List Item

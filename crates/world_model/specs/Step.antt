@@ -1,12 +1,10 @@
 -- The steps of the world, and what a list of them leads to.
-use Rattle.std.specs.Prelude.{ℕ, zero, suc, ◌+◌, ◌-◌, ◌^◌, Bool, true, false, cond, not, ◌&&◌, nat_eq, nat_le, nat_lt, List, [], ◌∷◌, ◌++◌, length, map, Result, Ok, Err}
+use Rattle.std.specs.Prelude.{ℕ, zero, suc, ◌+◌, ◌-◌, Bool, true, false, cond, nat_le, List, [], ◌∷◌, ◌++◌, length, map, Result, Ok, Err}
 use Rattle.std.specs.FinMap as fin
 use Rattle.std.specs.declared.option.Option.{Option}
 use Rattle.std.specs.declared.option.Option.TheVariants.{None, Some}
 use Rattle.tm_data.specs.declared.image.Image.{Image}
-use Rattle.tm_data.specs.declared.log.Group.{Group}
 use Rattle.tm_data.specs.declared.transaction.Page.{Page}
-use Rattle.tm_data.specs.declared.transaction.Stamp.{Stamp}
 use Rattle.tm_data.specs.declared.vector.VectorEntry.{VectorEntry}
 use Rattle.tm_base.specs.declared.command.Command.{Command}
 use Rattle.tm_base.specs.declared.message.Message.{Message}
@@ -25,21 +23,19 @@ use Rattle.replica_model.specs.Order.{waits}
 use Rattle.replica_model.specs.Reads.{Refused, NoPoint, NoTable, Unfit, Unpublished, Waits, Full}
 use Rattle.replica_model.specs.Reads as replica_reads
 use Rattle.replica_model.specs.State as replica
-use Rattle.store_model.specs.declared.front.Front.{Front}
 use Rattle.store_model.specs.declared.refusal.ReadRefusal.{ReadRefusal}
 use Rattle.store_model.specs.declared.refusal.ReadRefusal.TheVariants as refused
-use Rattle.store_model.specs.LogState.{LogStoreState}
 use Rattle.store_model.specs.LogState as log_state
-use Rattle.store_model.specs.LogStep as log_step
+use Rattle.store_model.specs.LogStarts.{reopened}
 use Rattle.store_model.specs.PageReads as page_reads
 use Rattle.store_model.specs.PageState.{PageStoreState}
 use Rattle.store_model.specs.PageState as page_state
-use Rattle.store_model.specs.PageStep as page_step
+use Rattle.store_model.specs.PageWhole.{with_part}
 use Rattle.world_model.specs.declared.past.PointMark.{PointMark}
-use Rattle.world_model.specs.Disk.{Disk, Worked, arm, opened}
+use Rattle.world_model.specs.Disk.{Worked, arm, opened}
 use Rattle.world_model.specs.Nodes.{delivers, item_size, message_size, ticks}
 use Rattle.world_model.specs.Past.{commanded, with_answer}
-use Rattle.world_model.specs.World.{World, Past, Effect, Item, Part, Kept, log_disk_of, or_zero, shelf_of, shows, stopped}
+use Rattle.world_model.specs.World.{World, Effect, Item, Part, Kept, log_disk_of, or_zero, shelf_of, shows, stopped}
 
 -- ---- a command
 
@@ -74,27 +70,17 @@ lock_opens w kept =
     (shows (record w { lock_disk = kept.disk }) (outcome.Stopped LockManager) [])
 
 -- A log store doesn't hear their stamps.
-abbrev pub log_after : LogStoreState → List Message → LogStoreState
-log_after s [] = s
-log_after s (m ∷ ms) = log_after (log_step.on_note s m.from m.note).0 ms
-
 abbrev pub log_opens : World → ℕ → Worked Message → Effect
 log_opens w number kept =
     let after = record w { log_disk = fin.insert w.log_disk number kept.disk } in
     cond kept.done
-    (shows (record after { log = fin.insert w.log number (log_after (log_state.start number) kept.disk.records) }) outcome.Fine [])
+    (shows (record after { log = fin.insert w.log number (reopened (log_state.start number) kept.disk.records) }) outcome.Fine [])
     (shows after (outcome.Stopped (LogStore number)) [])
 
 -- A page store takes the parts of groups on its shelf, in order: their records, and how far each log was taken.
-abbrev pub takes_part : PageStoreState → Group → PageStoreState
-takes_part s g = record s {
-  fronts = cond (nat_lt g.seq (2 ^ 32 - 1)) (fin.insert s.fronts g.writer.0 (page_step.front_of g)) s.fronts;
-  pages = page_step.with_links s.pages (page_step.brought s.number s.stores (g ∷ []));
-}
-
 abbrev pub page_after : PageStoreState → List Item → PageStoreState
 page_after s [] = s
-page_after s (Part g ∷ items) = page_after (takes_part s g) items
+page_after s (Part g ∷ items) = page_after (with_part s g) items
 page_after s (Kept image ∷ items) = page_after s items
 
 abbrev pub page_opens : World → ℕ → Worked Item → Effect
