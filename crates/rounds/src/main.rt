@@ -9,6 +9,7 @@
 mod codec;
 mod desk;
 mod failure;
+mod history;
 mod locks;
 mod log;
 mod pages;

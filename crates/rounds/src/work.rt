@@ -5,6 +5,7 @@ ghost use Rattle.node_messages.specs.Spelling.{message_bytes, IsMessage};
 use crate::codec::{read_group, read_image, read_message, write_group, write_image, write_message};
 use crate::desk::{seek, turn};
 use crate::failure::Failure;
+use crate::history::{maps, rows};
 use crate::locks::{ask, release, request};
 use crate::log::{acknowledge, append, fetch};
 use crate::pages::{add, read};
@@ -44,6 +45,10 @@ pub enum Work {
     Put(Order, u32),
     /// A row of a table with so many is looked for.
     Look(Order, u32),
+    /// The map at the cut of all of so many events is made.
+    MapAt(u32),
+    /// The rows at that cut are made.
+    RowsAt(u32),
 }
 
 fn number(word: &str) -> Option<u32> {
@@ -73,6 +78,8 @@ impl Work {
             "put-random" => Some(Work::Put(Order::Random, number(what)?)),
             "find-rising" => Some(Work::Look(Order::Rising, number(what)?)),
             "find-random" => Some(Work::Look(Order::Random, number(what)?)),
+            "map-at" => Some(Work::MapAt(number(what)?)),
+            "rows-at" => Some(Work::RowsAt(number(what)?)),
             _ => None,
         }
     }
@@ -165,5 +172,7 @@ pub fn done(alloc: Global, work: Work, rounds: u32) -> Result<u64, Failure> {
         Work::ReadPage(length) => read(alloc, length, rounds),
         Work::Put(order, rows) => Ok(put(alloc, order, rows, rounds)? as u64),
         Work::Look(order, rows) => Ok(look(alloc, order, rows, rounds)? as u64),
+        Work::MapAt(events) => maps(alloc, events, rounds),
+        Work::RowsAt(events) => rows(alloc, events, rounds),
     }
 }
