@@ -1,6 +1,6 @@
 -- What the commands answer, leaf by leaf. A relation between what a writer has and an answer that holds of each leaf
 -- holds of every answer.
-use Rattle.std.proofs.Common.{◌≡◌, ◌+◌, ◌-◌, ◌^◌, ℕ, Bool, true, false, List, [], ◌∷◌, ◌++◌, Option, Some, None, Result, Ok, Err, refl, sym, subst, arith}
+use Rattle.std.proofs.Common.{◌≡◌, ◌+◌, ◌-◌, ◌^◌, ℕ, Bool, true, false, List, [], ◌∷◌, ◌++◌, Option, Some, None, Result, Ok, Err, refl, sym, subst, arith, ◌≤◌, ◌∙◌, cond, ap}
 use Rattle.std.specs.Prelude.{nat_lt, nat_le, length, take}
 use Rattle.std.specs.FinMap as fin
 use Rattle.std.specs.FinSet as sets
@@ -22,7 +22,13 @@ use Rattle.master_model.specs.declared.session.Own.{Own}
 use Rattle.master_model.specs.declared.session.Progress.{Progress}
 use Rattle.master_model.specs.declared.session.Progress.TheVariants.{Active, Undoing, Ended}
 use Rattle.master_model.specs.Tags.{same_txn, takes, with_tag, others_on, foreign_on}
-use Rattle.master_model.specs.State.{Work, Answer, answers, says, to_locks}
+use Rattle.log_writer.specs.declared.acks.Acks.{Acks}
+use Rattle.log_writer.specs.declared.logged.Logged.{Logged}
+use Rattle.log_writer.specs.Acks.{has_all, least_lacking}
+use Rattle.log_writer.specs.Log.{durable_seq, lacking, lacking_of}
+use Rattle.std.specs.Prelude.{suc, slice_get, ◌&&◌, nat_eq}
+use Rattle.std.specs.List.{prefix_len}
+use Rattle.master_model.specs.State.{Work, Answer, answers, durable, says, to_locks}
 use Rattle.master_model.specs.Fates as fates
 use Rattle.master_model.specs.Fates.{Standing, Free, Locks, Unknown, named, unless, or_later}
 use Rattle.master_model.specs.Paths as paths
@@ -36,56 +42,123 @@ use Rattle.master_model.specs.Ends as ends
 use Rattle.master_model.specs.Ends.{Awaited, awaited, free}
 use Rattle.master_model.proofs.Moves.{HasRoom, begun_in}
 
-pub record Answered (P : Work → Answer → Type 0) : Type 0 where
+-- The replies of a refusal, or of what is awaited.
+abbrev pub IsPlain : Reply → Type 0
+IsPlain (reply.Committed t) = ⊥
+IsPlain (reply.Aborted t) = ⊥
+IsPlain (reply.Begun t) = ⊥
+IsPlain (reply.Value value) = ⊥
+IsPlain reply.Done = ⊥
+IsPlain other = Unit {0}
+
+abbrev pub end_reply : Bool → Txn → Reply
+end_reply true t = reply.Committed t
+end_reply false t = reply.Aborted t
+
+-- A session's transaction has ended durably.
+pub record EndsHere (w : Work) (session : ℕ) (own : Own) (committed : Bool) (seq : ℕ) : Type 0 where
+  pub in_session : fin.get w.sessions session ≡ Some own
+  pub progress : own.progress ≡ Ended committed seq
+  pub is_durable : seq ≤ durable w
+
+pub record Answered (session : ℕ) (P : Work → Answer → Type 0) : Type 0 where
   -- a path that was used
   pub used : (w : Work) (path : List Page) (a : Answer) → P (uses w path) a → P w a
   -- nothing changes
-  pub said : (w : Work) (r : Reply) → P w (says w r)
+  pub said : (w : Work) (r : Reply) → IsPlain r → P w (says w r)
+  pub own_value : (w : Work) (value : Option (List ℕ)) → P w (says w (reply.Value value))
   pub wanted : (w : Work) (page : Page) → P w (wants w page)
   pub fresh : (w : Work) (wanting : ℕ) → P w (answers w (reply.AgainFresh wanting) (to_locks w (note.RequestFresh w.log.writer (w.fresh + 1)) ∷ []))
   pub asked : (w : Work) (t : Txn) → fates.standing w t ≡ Unknown → P w (answers w (reply.AgainFate t) (to_locks w (note.Ask t w.number) ∷ []))
   -- something changes
-  pub name : (w : Work) (t : Txn) (r : Reply) → P w (says (named w t) r)
+  pub name : (w : Work) (t : Txn) (r : Reply) → IsPlain r → P w (says (named w t) r)
   pub begin : (w : Work) (session : ℕ) → P w (says (begun_in w session) (reply.Begun (txn_numbered w (w.begun + 1))))
   pub tag : (w : Work) (page : ℕ) (key : List ℕ) (number : ℕ) (value : Option (List ℕ)) → P w (says (record w { tags = with_tag w.tags page key (txn_numbered w number) }) (reply.Value value))
   pub put : (w : Work) (p : Put) (leaf : Image) (path fresh : List Page) (groups : List (List Record)) → HasRoom w (length groups) → P w (put_logged p leaf path fresh (logs w groups))
   pub end : (w : Work) (session : ℕ) (own : Own) (committed : Bool) (groups : List (List Record)) → HasRoom w (length groups) → P w (ends.ends session own committed (logs w groups))
   pub left : (w : Work) (session : ℕ) (own : Own) (rows : List RowKey) (groups : List (List Record)) → HasRoom w (length groups) → P w (ends.rows_left session own rows (logs w groups))
   pub undone : (w : Work) (groups : List (List Record)) → HasRoom w (length groups) → P w (ends.undone_logged (logs w groups))
-  pub over : (w : Work) (session : ℕ) (r : Reply) → P w (says (free w session) r)
+  pub over : (w : Work) (own : Own) (committed : Bool) (seq : ℕ) → EndsHere w session own committed seq → P w (says (free w session) (end_reply committed (txn_numbered w own.number)))
 
 abbrev IfSays : (Work → Answer → Type 0) → Work → Option Answer → Type 0
 IfSays P w None = Unit {0}
 IfSays P w (Some a) = P w a
 
-module _ {P : Work → Answer → Type 0} (c : Answered P) where
+-- Where nothing is awaited of a group it is durable.
+stops : (p : Logged → Bool) (ls : List Logged) (l : Logged) → slice_get ls (prefix_len p ls) ≡ Some l → p l ≡ false
+stops p [] l is = absurd (cc is)
+stops p (x ∷ ls) l is = by (p x) refl is (stops p ls l)
+  where
+    by : (b : Bool) → p x ≡ b → slice_get (x ∷ ls) (cond b (1 + prefix_len p ls) 0) ≡ Some l → (slice_get ls (prefix_len p ls) ≡ Some l → p l ≡ false) → p l ≡ false
+    by false at k rest = let one : x ≡ l = cc k in ap p (sym one) ∙ at
+    by true at k rest = rest (ap (λ (n : ℕ). slice_get (x ∷ ls) n) (suc_is (prefix_len p ls)) ∙ k)
+      where
+        suc_is : (n : ℕ) → suc n ≡ 1 + n
+        suc_is n = omega arith
+
+none_lacks : (acks : Acks) → has_all acks ≡ false → least_lacking acks.first acks.second acks.third ≡ None → ⊥
+none_lacks acks h k = by acks.first acks.second acks.third h k
+  where
+    by : (a b d : Bool) → (a && (b && d)) ≡ false → least_lacking a b d ≡ None → ⊥
+    by true true true h k = cc h
+    by true true false h k = cc k
+    by true false d h k = cc k
+    by false b d h k = cc k
+
+next_lacks : (ls : List Logged) → lacking ls (durable_seq ls + 1) ≡ None → ⊥
+next_lacks ls none = by (slice_get ls (durable_seq ls)) refl (same (nat_eq (durable_seq ls + 1) 0) refl none)
+  where
+    same : (b : Bool) → nat_eq (durable_seq ls + 1) 0 ≡ b → lacking_of (cond b None (slice_get ls (durable_seq ls + 1 - 1))) ≡ None → lacking_of (slice_get ls (durable_seq ls)) ≡ None
+    same true is h = absurd (cc h)
+    same false is h = let one : durable_seq ls ≡ durable_seq ls + 1 - 1 = omega arith in ap (λ (n : ℕ). lacking_of (slice_get ls n)) one ∙ h
+
+    by : (o : Option Logged) → slice_get ls (durable_seq ls) ≡ o → lacking_of o ≡ None → ⊥
+    by None is h = cc h
+    by (Some l) is h = none_lacks l.acks (stops (λ x. has_all x.acks) ls l is) h
+
+none_awaited : (w : Work) (seq : ℕ) → awaited w seq ≡ None → seq ≤ durable w
+none_awaited w seq is = by (nat_le seq (durable w)) refl is
+  where
+    next : (o : Option ℕ) → lacking w.log.groups (durable w + 1) ≡ o → ends.awaited_next (durable w + 1) o ≡ None → ⊥
+    next None lacks h = next_lacks w.log.groups lacks
+    next (Some store) lacks h = cc h
+
+    own : (o : Option ℕ) → ends.awaited_own w seq o ≡ None → ⊥
+    own None h = next (lacking w.log.groups (durable w + 1)) refl h
+    own (Some store) h = cc h
+
+    by : (b : Bool) → nat_le seq (durable w) ≡ b → ends.awaited_if w seq b ≡ None → seq ≤ durable w
+    by true at h = grind (arith, nat_tests)
+    by false at h = absurd (own (lacking w.log.groups seq) h)
+
+module _ {session : ℕ} {P : Work → Answer → Type 0} (c : Answered session P) where
   room_says : (w : Work) (count : ℕ) (a : Answer) → (HasRoom w count → P w a) → P w (with_room w count a)
   room_says w count a h = by (has_numbers w count) (has_stamps w count) refl refl
     where
       by : (b d : Bool) → has_numbers w count ≡ b → has_stamps w count ≡ d → P w (if_room w b d a)
-      by false d is_b is_d = c.said w reply.FullGroups
-      by true false is_b is_d = c.said w reply.StampsSpent
+      by false d is_b is_d = c.said w reply.FullGroups tt
+      by true false is_b is_d = c.said w reply.StampsSpent tt
       by true true is_b is_d = h (record { numbers = grind (arith, nat_tests); stamps = grind (arith, nat_tests) })
 
   unless_says : (w : Work) (o : Option Answer) (a : Answer) → IfSays P w o → P w a → P w (unless o a)
   unless_says w None a stops goes = goes
   unless_says w (Some b) a stops goes = stops
 
-  blocked_says : (w : Work) (t : Txn) (locked : Reply) → IfSays P w (fates.blocked w t locked)
-  blocked_says w t locked = by (fates.standing w t) refl
+  blocked_says : (w : Work) (t : Txn) (locked : Reply) → IsPlain locked → IfSays P w (fates.blocked w t locked)
+  blocked_says w t locked plain = by (fates.standing w t) refl
     where
       by : (s : Standing) → fates.standing w t ≡ s → IfSays P w (fates.blocked_by w t locked s)
       by Free is = tt
-      by Locks is = c.name w t locked
+      by Locks is = c.name w t locked plain
       by Unknown is = c.asked w t is
 
   later_says : (w : Work) (o later : Option Answer) → IfSays P w o → IfSays P w later → IfSays P w (or_later o later)
   later_says w None later a b = b
   later_says w (Some x) later a b = a
 
-  tags_say : (w : Work) (words : Tag → Reply) (ts : List Tag) → IfSays P w (fates.blocked_by_tags w words ts)
-  tags_say w words [] = tt
-  tags_say w words (t ∷ ts) = later_says w (fates.blocked w t.txn (words t)) (fates.blocked_by_tags w words ts) (blocked_says w t.txn (words t)) (tags_say w words ts)
+  tags_say : (w : Work) (words : Tag → Reply) (ts : List Tag) → ((t : Tag) → IsPlain (words t)) → IfSays P w (fates.blocked_by_tags w words ts)
+  tags_say w words [] plain = tt
+  tags_say w words (t ∷ ts) plain = later_says w (fates.blocked w t.txn (words t)) (fates.blocked_by_tags w words ts) (blocked_says w t.txn (words t) (plain t)) (tags_say w words ts plain)
 
   path_says : (w : Work) (table : ℕ) (key : List ℕ) (goes_on : Work → List Page → Image → Answer)
       → ((path : List Page) (leaf : Image) → P (uses w path) (goes_on (uses w path) path leaf)) → P w (paths.on_path w table key goes_on)
@@ -99,49 +172,49 @@ module _ {P : Work → Answer → Type 0} (c : Answered P) where
       by (Err page) = c.wanted w page
       by (Ok path) = at path (last_of None (images_on (here w) path))
 
-  session_says : (w : Work) (session : ℕ) (goes_on : Own → Answer) → ((own : Own) → P w (goes_on own)) → P w (reads.in_session w session goes_on)
-  session_says w session goes_on h = by (fin.get w.sessions session)
+  session_says : (w : Work) (in_session : ℕ) (goes_on : Own → Answer) → ((own : Own) → fin.get w.sessions in_session ≡ Some own → P w (goes_on own)) → P w (reads.in_session w in_session goes_on)
+  session_says w in_session goes_on h = by (fin.get w.sessions in_session) refl
     where
-      by : (o : Option Own) → P w (reads.on_session w o goes_on)
-      by None = c.said w reply.NoTransaction
-      by (Some own) = h own
+      by : (o : Option Own) → fin.get w.sessions in_session ≡ o → P w (reads.on_session w o goes_on)
+      by None is = c.said w reply.NoTransaction tt
+      by (Some own) is = h own is
 
   active_says : (w : Work) (t : Txn) (p : Progress) (a : Answer) → P w a → P w (reads.if_active w t p a)
   active_says w t Active a h = h
-  active_says w t other a h = c.said w (reply.Ending t)
+  active_says w t other a h = c.said w (reply.Ending t) tt
 
   named_says : (w : Work) (table : ℕ) (key : List ℕ) (a : Answer) → P w a → P w (reads.if_named w table key a)
   named_says w table key a h = by (reads.is_table table) (nat_le (length key) 64)
     where
       by : (b d : Bool) → P w (reads.if_table w table b (reads.if_key w key d a))
-      by false d = c.said w (reply.NoTable table)
-      by true false = c.said w (reply.TooLongKey (length key))
+      by false d = c.said w (reply.NoTable table) tt
+      by true false = c.said w (reply.TooLongKey (length key)) tt
       by true true = h
 
   pub begin_says : (w : Work) (session : ℕ) → P w (reads.begin w session)
   begin_says w session = by (fin.get w.sessions session)
     where
       new : (b : Bool) → P w (reads.begins w session b)
-      new false = c.said w reply.FullTransactions
+      new false = c.said w reply.FullTransactions tt
       new true = c.begin w session
 
       by : (o : Option Own) → P w (reads.begins_beside w session o)
       by None = new (nat_lt (w.begun + 1) (2 ^ 32 - 1))
-      by (Some own) = c.said w _
+      by (Some own) = c.said w (reply.AlreadyOpen (txn_numbered w own.number)) tt
 
   reads_say : (w : Work) (page : ℕ) (key : List ℕ) (number : ℕ) (value : Option (List ℕ)) (b : Bool) → P w (reads.reads_if w page key (txn_numbered w number) value b)
-  reads_say w page key number value false = c.said w reply.FullTags
+  reads_say w page key number value false = c.said w reply.FullTags tt
   reads_say w page key number value true = c.tag w page key number value
 
   get_of_says : (w : Work) (leaf : Image) (key : List ℕ) (number : ℕ) (row : Row) (b : Bool) → P w (reads.get_of w leaf key (txn_numbered w number) row b)
-  get_of_says w leaf key number row true = c.said w (reply.Value row.now)
+  get_of_says w leaf key number row true = c.own_value w row.now
   get_of_says w leaf key number row false =
-      unless_says w (fates.blocked w row.txn (reply.LockedRow row.txn key)) (reads.reads w leaf.page.0 key (txn_numbered w number) row.now) (blocked_says w row.txn (reply.LockedRow row.txn key))
+      unless_says w (fates.blocked w row.txn (reply.LockedRow row.txn key)) (reads.reads w leaf.page.0 key (txn_numbered w number) row.now) (blocked_says w row.txn (reply.LockedRow row.txn key) tt)
       (reads_say w leaf.page.0 key number row.now (takes w.tags leaf.page.0 key (txn_numbered w number)))
 
   pub get_says : (w : Work) (session table : ℕ) (key : List ℕ) → P w (reads.get w session table key)
   get_says w session table key =
-      session_says w session _ (λ own.
+      session_says w session _ (λ own is.
       active_says w (txn_numbered w own.number) own.progress _
       (named_says w table key _
       (path_says w table key (reads.get_at key (txn_numbered w own.number)) (λ path leaf. at (uses w path) own.number leaf (paths.row_at leaf key)))))
@@ -158,11 +231,11 @@ module _ {P : Work → Answer → Type 0} (c : Answered P) where
       by None = room_says w (length groups) (put_logged p leaf path fresh (logs w groups)) (c.put w p leaf path fresh groups)
 
   put_says_planned : (w : Work) (p : Put) (path : List Page) (leaf : Image) (r : Result (List (List Record)) Refusal) → P w (writes.put_by p w path leaf r)
-  put_says_planned w p path leaf (Err TooHigh) = c.said w reply.FullHeight
+  put_says_planned w p path leaf (Err TooHigh) = c.said w reply.FullHeight tt
   put_says_planned w p path leaf (Err (Wanting wanting)) = by w.spent
     where
       by : (b : Bool) → P w (writes.wants_fresh w wanting b)
-      by true = c.said w reply.PagesSpent
+      by true = c.said w reply.PagesSpent tt
       by false = c.fresh w wanting
   put_says_planned w p path leaf (Ok groups) = put_says_logged w p path leaf (take (writes.fresh_needed w path p.row) w.stock) groups
 
@@ -173,19 +246,19 @@ module _ {P : Work → Answer → Type 0} (c : Answered P) where
     where
       by : (b : Bool) → IfSays P w (writes.blocked_if_full w leaf.page.0 b)
       by false = tt
-      by true = tags_say w (λ t. reply.LockedSplit t.txn t.key) (foreign_on w.tags leaf.page.0 w.log.writer.0)
+      by true = tags_say w (λ t. reply.LockedSplit t.txn t.key) (foreign_on w.tags leaf.page.0 w.log.writer.0) (λ t. tt)
 
   put_says_row : (w : Work) (session : ℕ) (own : Own) (table : ℕ) (key : List ℕ) (value : Option (List ℕ)) (path : List Page) (leaf : Image) (old : Option Row)
       → P w (writes.put_row session own table key value w path leaf old)
   put_says_row w session own table key value path leaf old =
       let t = txn_numbered w own.number in
       unless_says w (writes.blocked_by_row w key t old) _ (by old)
-      (unless_says w (writes.blocked_by_readers w leaf.page.0 key t) _ (tags_say w (λ t. reply.LockedRow t.txn key) (others_on w.tags leaf.page.0 key t))
+      (unless_says w (writes.blocked_by_readers w leaf.page.0 key t) _ (tags_say w (λ t. reply.LockedRow t.txn key) (others_on w.tags leaf.page.0 key t) (λ t. tt))
       (put_says_free w (record { session = session; own = own; table = table; row = writes.row_put key t value old }) path leaf))
     where
       other : (row : Row) (b : Bool) → IfSays P w (writes.blocked_by_other w key row b)
       other row true = tt
-      other row false = blocked_says w row.txn (reply.LockedRow row.txn key)
+      other row false = blocked_says w row.txn (reply.LockedRow row.txn key) tt
 
       by : (o : Option Row) → IfSays P w (writes.blocked_by_row w key (txn_numbered w own.number) o)
       by None = tt
@@ -196,12 +269,12 @@ module _ {P : Work → Answer → Type 0} (c : Answered P) where
   value_says w (Some value) a h = by (nat_le (length value) 512)
     where
       by : (b : Bool) → P w (writes.if_short w value b a)
-      by false = c.said w (reply.TooLongValue (length value))
+      by false = c.said w (reply.TooLongValue (length value)) tt
       by true = h
 
   pub put_says : (w : Work) (session table : ℕ) (key : List ℕ) (value : Option (List ℕ)) → P w (writes.put w session table key value)
   put_says w session table key value =
-      session_says w session _ (λ own.
+      session_says w session _ (λ own is.
       active_says w (txn_numbered w own.number) own.progress _
       (named_says w table key _ (value_says w value _
       (path_says w table key (writes.put_at session own table key value) (λ path leaf. put_says_row (uses w path) session own table key value path leaf (paths.row_at leaf key))))))
@@ -210,18 +283,22 @@ module _ {P : Work → Answer → Type 0} (c : Answered P) where
       → P w (with_room w count (ends.ends session own committed (logs w groups)))
   end_says w session own committed groups count is = room_says w count _ (λ room. c.end w session own committed groups (subst (HasRoom w) (sym is) room))
 
-  answers_say : (w : Work) (session : ℕ) (r : Reply) (o : Awaited) → P w (ends.answers_end w session r o)
-  answers_say w session r None = c.over w session r
-  answers_say w session r (Some (store, seq)) = c.said w (reply.AgainStore store seq)
-
-  pub commit_says : (w : Work) (session : ℕ) → P w (ends.commit w session)
-  commit_says w session = session_says w session _ (λ own. by own (txn_numbered w own.number) own.progress)
+  answers_say : (w : Work) (own : Own) (committed : Bool) (seq : ℕ) → fin.get w.sessions session ≡ Some own → own.progress ≡ Ended committed seq
+      → P w (ends.answers_end w session (end_reply committed (txn_numbered w own.number)) (awaited w seq))
+  answers_say w own committed seq is ended = by (awaited w seq) refl
     where
-      by : (own : Own) (t : Txn) (p : Progress) → P w (ends.commits w session own t p)
-      by own t Active = end_says w session own true (ends.end_of t true ∷ []) 1 refl
-      by own t (Ended true seq) = answers_say w session (reply.Committed t) (awaited w seq)
-      by own t (Ended false seq) = c.said w (reply.Ending t)
-      by own t (Undoing rows) = c.said w (reply.Ending t)
+      by : (o : Awaited) → awaited w seq ≡ o → P w (ends.answers_end w session (end_reply committed (txn_numbered w own.number)) o)
+      by None none = c.over w own committed seq (record { in_session = is; progress = ended; is_durable = none_awaited w seq none })
+      by (Some (store, n)) none = c.said w (reply.AgainStore store n) tt
+
+  pub commit_says : (w : Work) → P w (ends.commit w session)
+  commit_says w = session_says w session _ (λ own is. by own is own.progress refl)
+    where
+      by : (own : Own) → fin.get w.sessions session ≡ Some own → (p : Progress) → own.progress ≡ p → P w (ends.commits w session own (txn_numbered w own.number) p)
+      by own is Active at = end_says w session own true (ends.end_of (txn_numbered w own.number) true ∷ []) 1 refl
+      by own is (Ended true seq) at = answers_say w own true seq is at
+      by own is (Ended false seq) at = c.said w (reply.Ending (txn_numbered w own.number)) tt
+      by own is (Undoing rows) at = c.said w (reply.Ending (txn_numbered w own.number)) tt
 
   abort_says_with : (w : Work) (session : ℕ) (own : Own) (t : Txn) (undone : List (List Record)) (rows : List RowKey) → P w (ends.aborts_with w session own t undone rows)
   abort_says_with w session own t undone [] = end_says w session own false (undone ++ ends.end_of t false ∷ []) (length undone + 1) (length-append undone (ends.end_of t false ∷ []))
@@ -233,14 +310,14 @@ module _ {P : Work → Answer → Type 0} (c : Answered P) where
       path_says w k.table k.key (λ used path leaf. ends.aborts_with used session own t (ends.undo leaf k.table k.key t) ks) (λ path leaf.
       abort_says_with (uses w path) session own t (ends.undo leaf k.table k.key t) ks)
 
-  pub abort_says : (w : Work) (session : ℕ) → P w (ends.abort w session)
-  abort_says w session = session_says w session _ (λ own. by own (txn_numbered w own.number) own.progress)
+  pub abort_says : (w : Work) → P w (ends.abort w session)
+  abort_says w = session_says w session _ (λ own is. by own is own.progress refl)
     where
-      by : (own : Own) (t : Txn) (p : Progress) → P w (ends.aborts w session own t p)
-      by own t Active = abort_says_rows w session own t (sets.items own.written)
-      by own t (Undoing rows) = abort_says_rows w session own t rows
-      by own t (Ended false seq) = answers_say w session (reply.Aborted t) (awaited w seq)
-      by own t (Ended true seq) = c.said w (reply.Ending t)
+      by : (own : Own) → fin.get w.sessions session ≡ Some own → (p : Progress) → own.progress ≡ p → P w (ends.aborts w session own (txn_numbered w own.number) p)
+      by own is Active at = abort_says_rows w session own (txn_numbered w own.number) (sets.items own.written)
+      by own is (Undoing rows) at = abort_says_rows w session own (txn_numbered w own.number) rows
+      by own is (Ended false seq) at = answers_say w own false seq is at
+      by own is (Ended true seq) at = c.said w (reply.Ending (txn_numbered w own.number)) tt
 
   pub undo_says : (w : Work) (table : ℕ) (key : List ℕ) (t : Txn) → P w (ends.undo_next w table key t)
   undo_says w table key t = path_says w table key (λ used path leaf. ends.undoes (ends.undo leaf table key t) used) (λ path leaf.

@@ -12,3 +12,4 @@ mod StepTold
 mod NoteTold
 mod ReplyLemmas
 mod QuietLemmas
+mod EndLemmas

@@ -78,21 +78,22 @@ logged_in w (r ∷ rs) room =
     let last : Contains (groups_of (appended w.log g)) g = subst (λ (gs : List Group). Contains gs g) (sym (groups_pushed w.log.groups (record { group = g; acks = no_acks }))) (Contains-push (groups_of w.log) g) in
     (in_longer next.log (logs next rs).work.log g (logs_moves log_moves next rs rest) (subst (λ (l : Log). Contains (groups_of l) g) (sym same) last), logged_in next rs rest)
 
-pub told_answers : Answered (λ w a. Tells a)
-told_answers = record {
+pub told_answers : (session : ℕ) → Answered session (λ w a. Tells a)
+told_answers session = record {
   used = λ w path a h. h;
-  said = λ w r. record { logged = tt; told = tt };
+  said = λ w r plain. record { logged = tt; told = tt };
   wanted = λ w page. record { logged = tt; told = wants_told w page (lease_of w.leases page.0).state refl };
   fresh = λ w wanting. record { logged = tt; told = (record { sender = refl; stamp = refl; says = (refl, refl, refl) }, tt) };
   asked = λ w t is. record { logged = tt; told = (record { sender = refl; stamp = refl; says = (refl, refl, foreign_asked (is_own w t) (fates.is_ended w t) (sets.contains w.told_open t) is) }, tt) };
-  name = λ w t r. record { logged = tt; told = tt };
+  own_value = λ w value. record { logged = tt; told = tt };
+  name = λ w t r plain. record { logged = tt; told = tt };
   begin = λ w session. record { logged = tt; told = tt };
   tag = λ w page key number value. record { logged = tt; told = tt };
   put = λ w p leaf path fresh groups room. record { logged = logged_in w groups room; told = tt };
   end = λ w session own committed groups room. record { logged = logged_in w groups room; told = tt };
   left = λ w session own rows groups room. record { logged = logged_in w groups room; told = tt };
   undone = λ w groups room. record { logged = logged_in w groups room; told = tt };
-  over = λ w session r. record { logged = tt; told = tt };
+  over = λ w own committed seq is. record { logged = tt; told = tt };
 }
 
 -- ---- a life's answers
@@ -132,7 +133,7 @@ recover_told l writer = by (nat_eq writer.0 (writer_of l.work)) (recovery.entry_
     next r left [] = finishes_told l r [] (awaited l.work l.undo_seq) tt
     next r left (u ∷ us) =
         let a : Answer = undo_next l.work u.row.table u.row.key u.txn in
-        undone_told l r (left - 1) a a.reply (undo_says told_answers l.work u.row.table u.row.key u.txn)
+        undone_told l r (left - 1) a a.reply (undo_says (told_answers 0) l.work u.row.table u.row.key u.txn)
 
     in_stage : (r : Recovery) (s : Stage) → LifeTells (recovery.recovers_in l r s)
     in_stage r Seal = record { logged = tt; told = seals_told l r.writer }
@@ -164,12 +165,12 @@ of_work : (l : Life) (a : Answer) → Tells a → LifeTells (does.from_work l a)
 of_work l a h = record { logged = h.logged; told = h.told }
 
 command_told : (l : Life) (session : ℕ) (asked : Command) → LifeTells (does.commanded l session asked)
-command_told l session command.Begin = of_work l _ (begin_says told_answers l.work session)
-command_told l session (command.Get table key) = of_work l _ (get_says told_answers l.work session table key)
-command_told l session (command.Put table key value) = of_work l _ (put_says told_answers l.work session table key (Some value))
-command_told l session (command.Del table key) = of_work l _ (put_says told_answers l.work session table key None)
-command_told l session command.Commit = of_work l _ (commit_says told_answers l.work session)
-command_told l session command.Abort = of_work l _ (abort_says told_answers l.work session)
+command_told l session command.Begin = of_work l _ (begin_says (told_answers session) l.work session)
+command_told l session (command.Get table key) = of_work l _ (get_says (told_answers session) l.work session table key)
+command_told l session (command.Put table key value) = of_work l _ (put_says (told_answers session) l.work session table key (Some value))
+command_told l session (command.Del table key) = of_work l _ (put_says (told_answers session) l.work session table key None)
+command_told l session command.Commit = of_work l _ (commit_says (told_answers session) l.work)
+command_told l session command.Abort = of_work l _ (abort_says (told_answers session) l.work)
 command_told l session (command.Recover writer) = recover_told l writer
 
 -- ---- the state's messages

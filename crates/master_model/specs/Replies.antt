@@ -1,13 +1,16 @@
 -- When a master's commands answer what.
-use Rattle.std.specs.Prelude.{◌≡◌, ◌⊎◌, ℕ, true, List, Ok}
+use Rattle.std.specs.Prelude.{◌≡◌, ◌⊎◌, ℕ, true, List, Ok, Bool, false, ◌≤◌}
 use Rattle.std.specs.List.{AllByRecursion}
+use Rattle.std.specs.FinMap.{FinMap}
 use Rattle.std.specs.FinMap as fin
+use Rattle.std.specs.Ordering.{nat_cmp}
 use Rattle.std.specs.declared.option.Option.{Option}
 use Rattle.std.specs.declared.option.Option.TheVariants.{None, Some}
 use Rattle.tm_data.specs.declared.image.Image.{Image}
 use Rattle.tm_data.specs.declared.row.Row.{Row}
 use Rattle.tm_data.specs.declared.transaction.Page.{Page}
 use Rattle.tm_data.specs.declared.transaction.Txn.{Txn}
+use Rattle.tm_data.specs.declared.transaction.Writer.{Writer}
 use Rattle.tm_base.specs.declared.message.Message.{Message}
 use Rattle.tm_base.specs.declared.message.Node.TheVariants.{LockManager}
 use Rattle.tm_base.specs.declared.reply.Reply.{Reply}
@@ -15,8 +18,9 @@ use Rattle.tm_base.specs.declared.reply.Reply.TheVariants as reply
 use Rattle.page_model.specs.Splits.{images_on}
 use Rattle.page_model.specs.Tree.{path_of}
 use Rattle.master_model.specs.declared.session.Own.{Own}
+use Rattle.master_model.specs.declared.session.Progress.TheVariants.{Ended}
 use Rattle.master_model.specs.Tags.{same_txn}
-use Rattle.master_model.specs.State.{Work, Life}
+use Rattle.master_model.specs.State.{Work, Life, durable}
 use Rattle.master_model.specs.Fates.{is_ended}
 use Rattle.master_model.specs.Paths.{here, last_of, row_at}
 use Rattle.master_model.specs.Reads.{txn_numbered}
@@ -59,3 +63,23 @@ QuietOrAsking said messages = IsAsking said ⊎ IsQuiet messages
 abbrev pub PathIsHere : Option Life → ℕ → List ℕ → Type 0
 PathIsHere None table key = Unit {0}
 PathIsHere (Some l) table key = (path : List Page) × (path_of (here l.work) table key ≡ Ok path)
+
+-- ---- ends
+
+-- A session's transaction has ended so, at the number of a group that is durable here.
+abbrev pub HasEnd : FinMap nat_cmp Own → ℕ → Writer → ℕ → Bool → Txn → Type 0
+HasEnd sessions most writer session committed t =
+    (own : Own) × (seq : ℕ) × (fin.get sessions session ≡ Some own) × (own.progress ≡ Ended committed seq) × (seq ≤ most) × (t ≡ record { writer = writer; number = own.number })
+
+-- Committed and Aborted are answered of such an end alone.
+abbrev pub SaysEnd : FinMap nat_cmp Own → ℕ → Writer → ℕ → Reply → Type 0
+SaysEnd sessions most writer session (reply.Committed t) = HasEnd sessions most writer session true t
+SaysEnd sessions most writer session (reply.Aborted t) = HasEnd sessions most writer session false t
+SaysEnd sessions most writer session other = Unit {0}
+
+-- A master that hasn't joined answers neither.
+abbrev pub SaysEndIn : Option Life → ℕ → Reply → Type 0
+SaysEndIn (Some l) session said = SaysEnd l.work.sessions (durable l.work) l.work.log.writer session said
+SaysEndIn None session (reply.Committed t) = ⊥
+SaysEndIn None session (reply.Aborted t) = ⊥
+SaysEndIn None session other = Unit {0}

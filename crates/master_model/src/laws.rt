@@ -12,7 +12,7 @@ ghost use Rattle.tm_base.specs.declared.message.Message.{Message};
 ghost use Rattle.tm_base.specs.declared.reply.Reply.TheVariants as reply;
 ghost use Rattle.master_model.specs.State.{State, Work};
 ghost use Rattle.master_model.specs.Reads.{get};
-ghost use Rattle.master_model.specs.Replies.{PathIsHere, QuietOrAsking, Reads};
+ghost use Rattle.master_model.specs.Replies.{PathIsHere, QuietOrAsking, Reads, SaysEndIn};
 ghost use Rattle.master_model.specs.Step.{on_command, start, step, tick};
 ghost use Rattle.master_model.specs.Facts.{Brings, Facts, JoinsAfter};
 ghost use Rattle.master_model.specs.Goes.{Goes};
@@ -105,4 +105,12 @@ pub fn a_path_that_is_here_is_quiet()
     ensures get { (begun : ℕ) (s : State) (session table : ℕ) (key : List ℕ) → Facts begun s → PathIsHere s.life table key → QuietOrAsking (on_command s session (command.Get table key)).1 (on_command s session (command.Get table key)).2 }
     ensures put { (begun : ℕ) (s : State) (session table : ℕ) (key value : List ℕ) → Facts begun s → PathIsHere s.life table key → QuietOrAsking (on_command s session (command.Put table key value)).1 (on_command s session (command.Put table key value)).2 }
     ensures del { (begun : ℕ) (s : State) (session table : ℕ) (key : List ℕ) → Facts begun s → PathIsHere s.life table key → QuietOrAsking (on_command s session (command.Del table key)).1 (on_command s session (command.Del table key)).2 }
+{}
+
+/// Committed and Aborted are answered to a session of its own transaction alone, which has ended with that outcome,
+/// at the number of a group that is durable here. So a session that never gets there, as one whose master is lost,
+/// is answered neither. Refused are a commit that answers as soon as its end is logged, and an abort that answers
+/// Aborted where the transaction was committed.
+pub fn ends_are_durable()
+    ensures { (s : State) (session : ℕ) (asked : Command) → SaysEndIn s.life session (on_command s session asked).1 }
 {}
