@@ -8,3 +8,5 @@ mod Walks
 mod Places
 mod Views
 mod Values
+mod Seeks
+mod Asked

@@ -52,7 +52,7 @@ not_below : (t : PageTag) (e y : PageTag) → is_lt (tag_cmp e t) ≡ false → 
 not_below t e y h o true is = let z : tag_cmp e t ≡ Less = tag_cmp-total.trans e y t o (lt_is (tag_cmp y t) is) in absurd (cc (h, ap is_lt z))
 not_below t e y h o false is = is
 
-none_below : (t : PageTag) (e : Entry) (es : List Entry) → is_lt (tag_cmp e.1 t) ≡ false → AllByRecursion (λ x. tag_cmp e.1 x.1 ≡ Less) es → AllByRecursion (λ y. is_lt (tag_cmp y.1 t) ≡ false) es
+pub none_below : (t : PageTag) (e : Entry) (es : List Entry) → is_lt (tag_cmp e.1 t) ≡ false → AllByRecursion (λ x. tag_cmp e.1 x.1 ≡ Less) es → AllByRecursion (λ y. is_lt (tag_cmp y.1 t) ≡ false) es
 none_below t e [] h a = tt
 none_below t e (y ∷ es) h a = (not_below t e.1 y.1 h a.0 (is_lt (tag_cmp y.1 t)) refl, none_below t e es h a.1)
 

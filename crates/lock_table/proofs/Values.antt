@@ -133,7 +133,7 @@ same_without u v none = sym (ap (λ (z : List PageTag). set_of z) (all_others u 
 
 -- ---- whether a tag is there
 
-ascend_filter : (u : PageTag → Bool) (es : List Entry) → Ascend es → Ascend (filter (by u) es)
+pub ascend_filter : (u : PageTag → Bool) (es : List Entry) → Ascend es → Ascend (filter (by u) es)
 ascend_filter u [] a = tt
 ascend_filter u (e ∷ es) a = at (u e.1) (all_filter (λ x. tag_cmp e.1 x.1 ≡ Less) u es a.0) (ascend_filter u es a.1)
   where

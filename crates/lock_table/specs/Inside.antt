@@ -1,5 +1,5 @@
 -- Tags as nodes of a slab, each in two lists that are linked by index.
-use Rattle.std.specs.Prelude.{◌≡◌, ◌≢◌, ◌⊎◌, ◌+◌, ◌-◌, ◌^◌, ◌<◌, ℕ, Bool, true, false, List, [], ◌∷◌, length, filter, IsSome, nat_le, cond, filter_map}
+use Rattle.std.specs.Prelude.{◌≡◌, ◌≢◌, ◌⊎◌, ◌+◌, ◌-◌, ◌^◌, ◌<◌, ℕ, Bool, true, false, List, [], ◌∷◌, length, filter, IsSome, nat_le, nat_eq, cond, filter_map}
 use Rattle.std.specs.List.{AllByRecursion}
 use Rattle.std.specs.Ordering.{nat_cmp, is_lt, is_eq}
 use Rattle.std.specs.FinMap.{FinMap}
@@ -13,11 +13,12 @@ use Rattle.tm_data.specs.declared.transaction.Txn.{Txn}
 use Rattle.tm_data.specs.Orders.{txn_cmp}
 use Rattle.lock_table.specs.declared.heads.Head.{Head}
 use Rattle.lock_table.specs.declared.nodes.Nodes.{Nodes}
+use Rattle.tm_base.specs.declared.message.Tag.{Tag}
 use Rattle.lock_table.specs.declared.node.Link.{Link}
 use Rattle.lock_table.specs.declared.node.Node.{Node}
 use Rattle.lock_table.specs.declared.node.Side.{Side}
 use Rattle.lock_table.specs.declared.node.Side.TheVariants as side
-use Rattle.lock_table.specs.Tags.{PageTag, is_on, same_txn, tag_cmp}
+use Rattle.lock_table.specs.Tags.{PageTag, tag_of, is_on_key, is_on, same_txn, tag_cmp}
 
 -- ---- a node, and what is written to it
 
@@ -214,3 +215,19 @@ is_tag t (Some x) = is_eq (tag_cmp x t)
 abbrev pub at_place : Slab Node → Option ℕ → Option PageTag
 at_place s None = None
 at_place s (Some at) = tag_at s at
+
+-- ---- what is sought along a list
+
+-- The first tag of another writer.
+abbrev pub foreign_in : ℕ → List Entry → Option Tag
+foreign_in own [] = None
+foreign_in own (e ∷ es) = cond (nat_eq e.1.txn.writer.0 own) (foreign_in own es) (Some (tag_of e.1))
+
+-- The first other transaction, as long as the tags are on the key.
+abbrev pub other_in : ℕ → List ℕ → Txn → List Entry → Option Txn
+other_in page key own [] = None
+other_in page key own (e ∷ es) = cond (is_on_key page key e.1) (cond (same_txn e.1.txn own) (other_in page key own es) (Some e.1.txn)) None
+
+-- No transaction is below it.
+abbrev pub least : Txn
+least = record { writer = record { 0 = 0 }; number = 0 }

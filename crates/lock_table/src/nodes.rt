@@ -1,12 +1,13 @@
 //! The nodes of all tags, with their lists.
-ghost use Rattle.std.specs.Prelude.{◌≡◌, ◌+◌, ◌++◌, ◌∷◌, [], List, Some, OnOk, filter};
+ghost use Rattle.std.specs.Prelude.{◌≡◌, ◌≤◌, ℕ, Option, None, length, ◌+◌, ◌++◌, ◌∷◌, [], List, Some, OnOk, filter};
 ghost use Rattle.std.specs.Option.{option_copied};
 ghost use Rattle.slab.specs.Slab as slab;
 ghost use Rattle.std.specs.List.{AllByRecursion};
 ghost use Rattle.slab.specs.Slab.{ContainsKey};
 ghost use Rattle.std.specs.FinMap as map;
-ghost use Rattle.lock_table.specs.Tags.{PageTag, tag_of, tag_cmp, page_tag};
-ghost use Rattle.lock_table.specs.Inside.{Entry, Stand, IsList, tag_in, tag_at, link_at, head_in, kept, shorter, gap_of, upto, from, on, Lacks, IsOpen, IsSame, is_tag, at_place};
+ghost use Rattle.lock_table.specs.Tags.{is_on_key, PageTag, tag_of, tag_cmp, page_tag};
+ghost use Rattle.lock_table.specs.declared.node.Side.TheVariants as side;
+ghost use Rattle.lock_table.specs.Inside.{foreign_in, other_in, least, head_of, IsLinked, Entry, Stand, IsList, tag_in, tag_at, link_at, head_in, kept, shorter, gap_of, upto, from, on, Lacks, IsOpen, IsSame, is_tag, at_place};
 
 use crate::heads::{Head, PageHeads, set_txn};
 use crate::node::{Link, Node, Side, rejoin};
@@ -14,7 +15,7 @@ use slab::Slab;
 use std::alloc::Global;
 use std::cmp::Ordering;
 use std::sync::ledger::Ledger;
-use tm_base::{Key, Mem, NoMemory, Page, Steps, Tag, Txn, TxnMap};
+use tm_base::{Key, Mem, NoMemory, Page, Steps, Tag, Txn, TxnMap, Writer};
 
 /// All tags, each a node of the slab, which stands in the list of its page and in that of its transaction.
 #[derive(Drop)]
@@ -26,6 +27,12 @@ pub(crate) struct Nodes {
 
 // A list of more tags takes no further one: no memory has room for so many.
 const MOST: usize = usize::MAX - 1;
+
+// No transaction is below it.
+const LEAST: Txn = Txn {
+    writer: Writer(0),
+    number: 0,
+};
 
 /// The head of a list, also of one that isn't there.
 fn or_empty(head: Option<Head>) -> Head
@@ -95,6 +102,45 @@ fn gap(nodes: &Slab<Node>, side: Side, head: Head, page: Page, key: &Key, txn: T
     Link { prev, next }
 }
 
+/// The first other transaction with a tag on a key, from a place on. At most two nodes are looked at: a
+/// transaction has one tag on a key.
+fn other_from(
+    nodes: &Slab<Node>,
+    start: Option<usize>,
+    most: usize,
+    page: Page,
+    key: &Key,
+    own: Txn,
+) -> Option<Txn>
+    ensures { (prev : Option ℕ) (es : List Entry) → IsLinked (link_at side.Page nodes.now) prev es None → start ≡ head_of es None → AllByRecursion (λ e. tag_at nodes.now e.0 ≡ Some e.1) es → length es ≤ most
+        → result ≡ other_in page.0 key.now own es }
+{
+    let mut next = start;
+    for _ in 0..most {
+        let Some(at) = next else {
+            return None;
+        };
+        let Some(node) = nodes.get(at) else {
+            return None;
+        };
+        if !is_on_key(node, page, key) {
+            return None;
+        }
+        if node.tag.txn != own {
+            return Some(node.tag.txn);
+        }
+        next = node.on_page.next;
+    }
+    None
+}
+
+/// Whether the tag of a node is on this key of this page.
+fn is_on_key(node: &Node, page: Page, key: &Key) -> bool
+    ensures { result ≡ is_on_key page.0 key.now (tag_in node.now) }
+{
+    node.page == page && node.tag.key == *key
+}
+
 impl Nodes {
     /// No tags.
     pub(crate) fn new(alloc: Global) -> Nodes
@@ -142,6 +188,36 @@ impl Nodes {
     {
         let head = or_empty(self.pages.get(page.0));
         gap(&self.slab, Side::Page, head, page, key, txn)
+    }
+
+    /// The first tag of another writer on a page.
+    pub(crate) fn foreign(&self, page: Page, own: Writer) -> Option<&Tag>
+        ensures { (es : List Entry) → Stand self.now es → option_copied result ≡ foreign_in own.0 (filter (on page.0) es) }
+    {
+        let head = or_empty(self.pages.get(page.0));
+        let mut next = head.first;
+        for _ in 0..head.count {
+            let Some(at) = next else {
+                return None;
+            };
+            let Some(node) = self.slab.get(at) else {
+                return None;
+            };
+            if node.tag.txn.writer != own {
+                return Some(&node.tag);
+            }
+            next = node.on_page.next;
+        }
+        None
+    }
+
+    /// The first other transaction with a tag on a key.
+    pub(crate) fn other(&self, page: Page, key: &Key, own: Txn) -> Option<Txn>
+        ensures { (es : List Entry) → Stand self.now es → result ≡ other_in page.0 key.now own (from (page_tag page.0 key.now least) (filter (on page.0) es)) }
+    {
+        let head = or_empty(self.pages.get(page.0));
+        let place = self.place(page, key, LEAST);
+        other_from(&self.slab, place.next, head.count, page, key, own)
     }
 
     /// Whether the tag at a place is this one.

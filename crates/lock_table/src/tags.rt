@@ -1,6 +1,7 @@
 //! The table of tags.
 ghost use Rattle.std.specs.Prelude.{◌≡◌, ◌+◌, ◌∷◌, [], length, filter, not, true, false, IfSome, IfNone, OnOk, OnErr, IfOk};
 ghost use Rattle.std.specs.Result.{IsErrOf};
+ghost use Rattle.std.specs.Option.{option_copied};
 ghost use Rattle.std.specs.FinMap as fin;
 ghost use Rattle.lock_table.specs.Tags.{no_tags, with_tag, takes, page_tag, tag_of, tags_on, tags_of, without_txn, without_page, same_txn, is_on, items, conflict, foreign};
 ghost use Rattle.lock_table.specs.declared.tags.TagError.TheVariants as TagError;
@@ -143,5 +144,19 @@ impl Tags {
             tags.push(tag)?;
         }
         Ok(TagList::from_vec(tags))
+    }
+
+    /// The least transaction but `own` that has a tag on this key of a page. It takes no memory.
+    pub fn conflict(&self, page: Page, key: &Key, own: Txn) -> Option<Txn>
+        ensures { result ≡ conflict self.now page.0 key.now own }
+    {
+        self.nodes.other(page, key, own)
+    }
+
+    /// The least tag on a page, by key and then by transaction, of another writer than `own`. It takes no memory.
+    pub fn foreign(&self, page: Page, own: Writer) -> Option<&Tag>
+        ensures { option_copied result ≡ foreign self.now page.0 own.0 }
+    {
+        self.nodes.foreign(page, own)
     }
 }
