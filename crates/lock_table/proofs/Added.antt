@@ -32,7 +32,7 @@ use Rattle.lock_table.proofs.Tables.{all_with, all_parts, apart_with, ascend_wit
 abbrev to_both : ℕ → Link
 to_both key = record { prev = Some key; next = Some key }
 
-fresh : (s : Slab Node) (key : ℕ) → tag_at s key ≡ None → (es : List Entry) → AllByRecursion (λ e. tag_at s e.0 ≡ Some e.1) es → Differ key es
+pub fresh : (s : Slab Node) (key : ℕ) → tag_at s key ≡ None → (es : List Entry) → AllByRecursion (λ e. tag_at s e.0 ≡ Some e.1) es → Differ key es
 fresh s key none [] h = tt
 fresh s key none (e ∷ es) h = (λ (same : e.0 ≡ key). let n : tag_at s e.0 ≡ None = ap (tag_at s) same ∙ none in absurd (cc (n, h.0)), fresh s key none es h.1)
 

@@ -10,3 +10,5 @@ mod Views
 mod Values
 mod Seeks
 mod Asked
+mod Moved
+mod Moving

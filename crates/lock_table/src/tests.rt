@@ -65,3 +65,26 @@ fn a_page_is_full(rt: HostRuntime) -> Result<(), Fail> {
     assert_eq!(rt; tags.add(Page(2), &key, txn(4097)), Ok(()));
     Ok(())
 }
+
+/// From a key on, a page's tags move to another page, and those on lower keys stay.
+#[test]
+fn tags_move(rt: HostRuntime) -> Result<(), Fail> {
+    let alloc = rt.alloc();
+    let mut tags = Tags::new(alloc);
+    let (Ok(b), Ok(c)) = (Key::new(alloc, &[0x6b]), Key::new(alloc, &[0x6c])) else {
+        return Err(Fail::from("two keys"));
+    };
+    for (page, key, number) in [(1, &b, 1), (1, &c, 1), (1, &c, 2), (3, &c, 2)] {
+        if tags.add(Page(page), key, txn(number)).is_err() {
+            return Err(Fail::from("a tag with room"));
+        }
+    }
+    if tags.move_from(Page(1), &c, Page(3)).is_err() {
+        return Err(Fail::from("the tags move"));
+    }
+    assert_eq!(rt; tags.conflict(Page(1), &b, txn(2)), Some(txn(1)));
+    assert_eq!(rt; tags.conflict(Page(1), &c, txn(3)), None);
+    assert_eq!(rt; tags.conflict(Page(3), &c, txn(3)), Some(txn(1)));
+    assert_eq!(rt; tags.conflict(Page(3), &c, txn(1)), Some(txn(2)));
+    Ok(())
+}
