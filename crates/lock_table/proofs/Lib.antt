@@ -12,3 +12,4 @@ mod Seeks
 mod Asked
 mod Moved
 mod Moving
+mod Putting

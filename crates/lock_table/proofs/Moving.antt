@@ -84,7 +84,7 @@ equal Less h = absurd (cc (h))
 equal Equal h = refl
 equal Greater h = absurd (cc (h))
 
-any_like : (p : PageTag → Bool) (t : PageTag) (ts : List PageTag) → list_any (eq_by_cmp tag_cmp t) ts ≡ true → p t ≡ true → list_any p ts ≡ true
+pub any_like : (p : PageTag → Bool) (t : PageTag) (ts : List PageTag) → list_any (eq_by_cmp tag_cmp t) ts ≡ true → p t ≡ true → list_any p ts ≡ true
 any_like p t [] h is = absurd (cc (h))
 any_like p t (x ∷ ts) h is = at (eq_by_cmp tag_cmp t x) refl h (λ there. any_like p t ts there is)
   where

@@ -3,10 +3,11 @@ ghost use Rattle.std.specs.Prelude.{◌≡◌, ◌≢◌, ◌≤◌, ◌<◌, �
 ghost use Rattle.std.specs.Option.{option_copied};
 ghost use Rattle.slab.specs.Slab as slab;
 ghost use Rattle.std.specs.List.{AllByRecursion};
-ghost use Rattle.slab.specs.Slab.{ContainsKey};
+ghost use Rattle.slab.specs.Slab.{ContainsKey, HasRoomFor};
 ghost use Rattle.std.specs.FinMap as map;
 ghost use Rattle.lock_table.specs.Tags.{is_on_key, PageTag, tag_of, tag_cmp, page_tag};
 ghost use Rattle.lock_table.specs.declared.node.Side.TheVariants as side;
+ghost use Rattle.lock_table.specs.Putting.{HasPlace, IsReady, Grows, Stays, HavePut};
 ghost use Rattle.lock_table.specs.Moving.{to_page, Moves, HaveMoved};
 ghost use Rattle.lock_table.specs.Inside.{foreign_in, other_in, least, head_of, IsLinked, Entry, Stand, IsList, tag_in, tag_at, link_at, head_in, kept, shorter, gap_of, upto, from, on, Lacks, IsOpen, IsSame, is_tag, at_place, unlinked, joined};
 
@@ -402,10 +403,13 @@ impl Nodes {
     /// Puts a tag that isn't there into its place, for which there is room.
     pub(crate) fn insert(&mut self, page: Page, tag: Tag, on_page: Link)
         requires { IsOpen self.old page.0 tag.txn }
-        ensures { (es : List Entry) → Stand self.old es
+        ensures stand { (es : List Entry) → Stand self.old es
             → on_page ≡ gap_of (upto (page_tag page.0 tag.key tag.txn) (filter (on page.0) es)) (from (page_tag page.0 tag.key tag.txn) (filter (on page.0) es))
             → Lacks (page_tag page.0 tag.key tag.txn) es
             → Stand self.new (upto (page_tag page.0 tag.key tag.txn) es ++ (self.old.slab.vacant_key, page_tag page.0 tag.key tag.txn) ∷ from (page_tag page.0 tag.key tag.txn) es) }
+        ensures room { (more : ℕ) → HasRoomFor self.old.slab (more + 1) → HasRoomFor self.new.slab more }
+        ensures pages { (p : ℕ) → Grows (map.get self.old.pages p) (map.get self.new.pages p) }
+        ensures txns { (x : Txn) → Grows (map.get self.old.txns x) (map.get self.new.txns x) }
     {
         let txn = tag.txn;
         let txn_head = or_empty(self.txns.get(&txn).copied());
@@ -418,6 +422,62 @@ impl Nodes {
         });
         self.join(key, page, on_page, of_txn);
         set_txn(&mut self.txns, txn, txn_head.with(key, of_txn));
+    }
+
+    /// Puts a tag into its place on a page, for which there is room, unless it is there. It takes no memory.
+    fn put(&mut self, page: Page, tag: Tag)
+        requires { IsOpen self.old page.0 tag.txn }
+        ensures put { (es : List Entry) → Stand self.old es → HavePut page.0 (tag ∷ []) es self.new }
+        ensures room { (more : ℕ) → HasRoomFor self.old.slab (more + 1) → HasRoomFor self.new.slab more }
+        ensures pages { (p : ℕ) → Grows (map.get self.old.pages p) (map.get self.new.pages p) }
+        ensures txns { (x : Txn) → Grows (map.get self.old.txns x) (map.get self.new.txns x) }
+    {
+        let place = self.place(page, &tag.key, tag.txn);
+        if self.holds(place.next, page, &tag.key, tag.txn) {
+            return;
+        }
+        self.insert(page, tag, place);
+    }
+
+    /// Puts tags into their places on a page, for which there is room, but those that are there. It takes no memory.
+    pub(crate) fn put_all(&mut self, page: Page, tags: Vec<Tag>)
+        requires { IsReady self.old page.0 (length tags.items) tags.items }
+        ensures { (es : List Entry) → Stand self.old es → HavePut page.0 tags.items es self.new }
+    {
+        let mut rest = tags;
+        while let Some(tag) = rest.pop() {
+            self.put(page, tag);
+        }
+    }
+
+    /// Makes room for the head of a transaction's list, to which so many tags may come.
+    fn open_txn(&mut self, txn: Txn, more: usize) -> Mem<()>
+        ensures rest { (self.new.slab ≡ self.old.slab) × (self.new.pages ≡ self.old.pages) }
+        ensures same { (x : Txn) → Stays (map.get self.old.txns x) (map.get self.new.txns x) }
+        ensures ok { OnOk result (HasPlace more (map.get self.new.txns txn)) }
+    {
+        let head = or_empty(self.txns.get(&txn).copied());
+        if head.count > usize::MAX - more {
+            return Err(NoMemory);
+        }
+        let Ok(_) = self.txns.insert(txn, head) else {
+            return Err(NoMemory);
+        };
+        Ok(())
+    }
+
+    /// Makes room for tags on a page: for their nodes, and for the heads of all lists. With want of memory nothing
+    /// changes but that empty lists may have a head.
+    pub(crate) fn open_all(&mut self, page: Page, tags: &[Tag]) -> Mem<()>
+        ensures same { IsSame self.old self.new }
+        ensures ok { OnOk result (IsReady self.new page.0 (length tags.now) tags.now) }
+    {
+        self.open_page(page, tags.len())?;
+        self.slab.reserve(tags.len())?;
+        for tag in tags {
+            self.open_txn(tag.txn, tags.len())?;
+        }
+        Ok(())
     }
 
     /// Takes a node out of both of its lists and out of the slab, which is one step.

@@ -3,7 +3,7 @@ ghost use Rattle.std.specs.Prelude.{◌≡◌, ◌+◌, ◌∷◌, [], length, f
 ghost use Rattle.std.specs.Result.{IsErrOf};
 ghost use Rattle.std.specs.Option.{option_copied};
 ghost use Rattle.std.specs.FinMap as fin;
-ghost use Rattle.lock_table.specs.Tags.{no_tags, with_tag, takes, page_tag, tag_of, tags_on, tags_of, without_txn, without_page, same_txn, is_on, items, conflict, foreign, moved};
+ghost use Rattle.lock_table.specs.Tags.{no_tags, with_tag, takes, page_tag, tag_of, tags_on, tags_of, without_txn, without_page, same_txn, is_on, items, conflict, foreign, moved, with_tags};
 ghost use Rattle.lock_table.specs.declared.tags.TagError.TheVariants as TagError;
 
 use crate::nodes::Nodes;
@@ -157,6 +157,17 @@ impl Tags {
             return Ok(());
         }
         self.nodes.move_from(page, at, to)?;
+        Ok(())
+    }
+
+    /// Adds tags to those of a page, however many there are. With want of memory nothing changes.
+    pub fn put_page(&mut self, page: Page, tags: &TagList) -> Mem<()>
+        ensures ok { OnOk result (self.new ≡ with_tags self.old page.0 tags.now) }
+        ensures err { OnErr result (self.new ≡ self.old) }
+    {
+        let copies = tags.copy()?.into_vec();
+        self.nodes.open_all(page, copies.as_slice())?;
+        self.nodes.put_all(page, copies);
         Ok(())
     }
 

@@ -11,10 +11,19 @@ use Rattle.lock_table.specs.Inside.{IsTable, IsList, link_at, tag_at, head_in, h
 use Rattle.lock_table.proofs.Filters.{all_filter}
 use Rattle.lock_table.proofs.Tables.{of_txn}
 use Rattle.lock_table.proofs.Added.{added_by}
+use Rattle.std.proofs.Common.{◌+◌, arith}
+use Rattle.std.specs.Ordering.{nat_cmp}
+use Rattle.std.specs.FinMap as map
+use Rattle.std.specs.FinMap.{FinMap}
+use Rattle.slab.specs.Slab.{slab_len}
+use Rattle.tm_data.specs.Orders.{txn_cmp}
+use Rattle.lock_table.specs.Putting.{Grows}
+use Rattle.lock_table.specs.Inside.{head_with}
+use Rattle.lock_table.proofs.Putting.{rejoined_room, page_grows, txn_grows}
 use Rattle.lock_table.proofs.nodes.Nodes.insert.Goals as goal
 
-pub returns : goal.returns
-returns c = λ es l place lacks.
+pub returns-clause-stand : goal.returns-clause-stand
+returns-clause-stand c = λ es l place lacks.
     let s = c.args.self.now in
     let x = c.args.tag.txn in
     let t = page_tag c.args.page.0 c.args.tag.key x in
@@ -29,3 +38,28 @@ returns c = λ es l place lacks.
     let txns_is = c.set_txn.ensures ∙ (ap (λ (z : Nodes). insert z.txns x c.with.result) c.join.ensures ∙ ap (λ (h : Head). insert s.txns x h) (c.with.ensures ∙ ap (λ (h : Head). head_with h key c.gap-of_txn.result) ht)) in
     let done = added_by s.slab c.insert_reserved-key.new.self (rejoined side.Page c.insert_reserved-key.new.self c.args.on_page (both_to key)) j.slab s.pages j.pages s.txns c.set_txn.new.heads n key es c.insert_reserved-key.ensures.was_vacant c.insert_reserved-key.ensures.updates refl slab_is pages_is txns_is place gap_t lacks l in
     subst (λ (k : ℕ). IsTable j.slab j.pages c.set_txn.new.heads (upto t es ++ (k, t) ∷ from t es)) c.insert_reserved-key.ensures.key done
+
+pub returns-clause-room : goal.returns-clause-room
+returns-clause-room c = λ more h.
+    let s = c.args.self.now in
+    let u = c.insert_reserved-key.new.self in
+    let key = c.insert_reserved-key.result in
+    let a = rejoined_room side.Page u c.args.on_page (both_to key) in
+    let b = rejoined_room side.Txn (rejoined side.Page u c.args.on_page (both_to key)) c.gap-of_txn.result (both_to key) in
+    let len : slab_len c.join.new.self.slab ≡ slab_len u = ap (λ (z : Nodes). slab_len z.slab) c.join.ensures ∙ (b.len ∙ a.len) in
+    let capacity : c.join.new.self.slab.capacity ≡ u.capacity = ap (λ (z : Nodes). z.slab.capacity) c.join.ensures ∙ (b.capacity ∙ a.capacity) in
+    omega (arith, h, len, capacity, c.insert_reserved-key.ensures.len, c.insert_reserved-key.ensures.capacity)
+
+pub returns-clause-pages : goal.returns-clause-pages
+returns-clause-pages c = λ p.
+    let s = c.args.self.now in
+    let h = head_with (head_in (map.get s.pages c.args.page.0)) c.insert_reserved-key.result c.args.on_page in
+    subst (λ (m : FinMap nat_cmp Head). Grows (map.get s.pages p) (map.get m p)) (sym (ap (λ (z : Nodes). z.pages) c.join.ensures)) (page_grows s.pages c.args.page.0 h refl p)
+
+pub returns-clause-txns : goal.returns-clause-txns
+returns-clause-txns c = λ x.
+    let s = c.args.self.now in
+    let t = c.args.tag.txn in
+    let ht : c.or_empty-txn_head.result ≡ head_in (map.get s.txns t) = c.or_empty-txn_head.ensures ∙ ap head_in (c.copied.ensures ∙ c.get.ensures) in
+    let count : c.with.result.count ≡ (head_in (map.get s.txns t)).count + 1 = ap (λ (h : Head). h.count) c.with.ensures ∙ ap (λ (h : Head). h.count + 1) ht in
+    subst (λ (m : FinMap txn_cmp Head). Grows (map.get s.txns x) (map.get m x)) (sym (c.set_txn.ensures ∙ ap (λ (z : Nodes). insert z.txns t c.with.result) c.join.ensures)) (txn_grows s.txns t c.with.result count x)
