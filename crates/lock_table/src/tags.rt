@@ -165,6 +165,9 @@ impl Tags {
         ensures ok { OnOk result (self.new ≡ with_tags self.old page.0 tags.now) }
         ensures err { OnErr result (self.new ≡ self.old) }
     {
+        if tags.is_empty() {
+            return Ok(());
+        }
         let copies = tags.copy()?.into_vec();
         self.nodes.open_all(page, copies.as_slice())?;
         self.nodes.put_all(page, copies);
