@@ -19,7 +19,7 @@ use Rattle.lock_table.specs.declared.node.Side.TheVariants as side
 use Rattle.lock_table.specs.declared.heads.Head.{Head}
 use Rattle.lock_table.specs.declared.nodes.Nodes.{Nodes}
 use Rattle.lock_table.specs.Tags.{PageTag, is_on, same_txn, tag_cmp}
-use Rattle.lock_table.specs.Inside.{Entry, IsSame, Lacks, gap_of, upto, from, head_of, last_of, Differ, AreApart, IsIn, IsList, IsTable, on, of, tag_in, head_in, head_with, kept, rejoined, tag_at, link_at, tag_of_node, link_of_node}
+use Rattle.lock_table.specs.Inside.{Entry, IsSame, Lacks, gap_of, upto, from, head_of, last_of, Differ, AreApart, IsIn, IsList, IsTable, on, of, tag_in, head_in, head_with, kept, rejoined, both_to, tag_at, link_at, tag_of_node, link_of_node}
 use Rattle.lock_table.proofs.Writes.{turned_at, rejoined_tag, rejoined_link, rejoined_other}
 use Rattle.lock_table.proofs.Segments.{Turns, turned_clear, not_last, not_head, flip, all_join}
 use Rattle.lock_table.proofs.Places.{upto_from, below, above, upto_filter, from_filter}
@@ -29,26 +29,23 @@ use Rattle.lock_table.proofs.Tables.{all_with, all_parts, apart_with, ascend_wit
 
 -- ---- the table with one more node
 
-abbrev to_both : ℕ → Link
-to_both key = record { prev = Some key; next = Some key }
-
-fresh : (s : Slab Node) (key : ℕ) → tag_at s key ≡ None → (es : List Entry) → AllByRecursion (λ e. tag_at s e.0 ≡ Some e.1) es → Differ key es
+pub fresh : (s : Slab Node) (key : ℕ) → tag_at s key ≡ None → (es : List Entry) → AllByRecursion (λ e. tag_at s e.0 ≡ Some e.1) es → Differ key es
 fresh s key none [] h = tt
 fresh s key none (e ∷ es) h = (λ (same : e.0 ≡ key). let n : tag_at s e.0 ≡ None = ap (tag_at s) same ∙ none in absurd (cc (n, h.0)), fresh s key none es h.1)
 
 module _ (f g : ℕ → Option Link) (u : PageTag → Bool) (key : ℕ) (t : PageTag) (xs ys : List Entry) where
-  side_added : (h : Head) (link : Link) → AreApart (xs ++ ys) → Differ key (xs ++ ys) → u t ≡ true → link ≡ gap_of (filter (by u) xs) (filter (by u) ys) → g key ≡ Some link → Turns f g key link (to_both key)
+  side_added : (h : Head) (link : Link) → AreApart (xs ++ ys) → Differ key (xs ++ ys) → u t ≡ true → link ≡ gap_of (filter (by u) xs) (filter (by u) ys) → g key ≡ Some link → Turns f g key link (both_to key)
       → IsList f h (filter (by u) (xs ++ ys)) → IsList g (head_with h key link) (filter (by u) (xs ++ (key, t) ∷ ys))
   side_added h link a d is at here w l =
       let p = all_parts (λ e. e.0 ≢ key) xs ys d in
       subst (λ (k : Link). IsList g (head_with h key k) (filter (by u) (xs ++ (key, t) ∷ ys))) (sym at)
-      (own_added f g h u key t xs ys a p.0 p.1 is (subst (λ (k : Link). Turns f g key k (to_both key)) at w) (here ∙ ap (λ (k : Link). Some k) at) l)
+      (own_added f g h u key t xs ys a p.0 p.1 is (subst (λ (k : Link). Turns f g key k (both_to key)) at w) (here ∙ ap (λ (k : Link). Some k) at) l)
 
   side_added_others : (at : ℕ → Option PageTag) (v : PageTag → Bool) (h : Head) (link : Link) → Exclude u v → Here at (xs ++ ys) → Differ key (xs ++ ys) → u t ≡ true → link ≡ gap_of (filter (by u) xs) (filter (by u) ys)
-      → Turns f g key link (to_both key) → IsList f h (filter (by v) (xs ++ ys)) → IsList g h (filter (by v) (xs ++ (key, t) ∷ ys))
+      → Turns f g key link (both_to key) → IsList f h (filter (by v) (xs ++ ys)) → IsList g h (filter (by v) (xs ++ (key, t) ∷ ys))
   side_added_others at v h link x here d is gap w l =
       subst (IsList g h) (sym (mid_no v (key, t) xs ys (not_in f g u key t xs ys v x is (v t) refl)))
-      (away f g u key t xs ys at v h (to_both key) x here d (subst (λ (k : Link). Turns f g key k (to_both key)) gap w) l)
+      (away f g u key t xs ys at v h (both_to key) x here d (subst (λ (k : Link). Turns f g key k (both_to key)) gap w) l)
 
 module _ (s t : Slab Node) (pages : FinMap nat_cmp Head) (txns : FinMap txn_cmp Head) (n : Node) (key : ℕ) (xs ys : List Entry) where
   abbrev page : ℕ
@@ -57,7 +54,7 @@ module _ (s t : Slab Node) (pages : FinMap nat_cmp Head) (txns : FinMap txn_cmp 
   abbrev txn : Txn
   txn = n.tag.txn
 
-  module _ (none : tag_at s key ≡ None) (w : Relinks s t key n.on_page (to_both key) n.of_txn (to_both key)) (tag : tag_at t key ≡ Some (tag_in n))
+  module _ (none : tag_at s key ≡ None) (w : Relinks s t key n.on_page (both_to key) n.of_txn (both_to key)) (tag : tag_at t key ≡ Some (tag_in n))
       (on_page : link_at side.Page t key ≡ Some n.on_page) (of_txn_is : link_at side.Txn t key ≡ Some n.of_txn)
       (gap_p : n.on_page ≡ gap_of (filter (on page) xs) (filter (on page) ys)) (gap_t : n.of_txn ≡ gap_of (filter (of txn) xs) (filter (of txn) ys))
       (below : AllByRecursion (λ x. tag_cmp x.1 (tag_in n) ≡ Less) xs) (above : AllByRecursion (λ y. tag_cmp (tag_in n) y.1 ≡ Less) ys) (l : IsTable s pages txns (xs ++ ys)) where
@@ -105,21 +102,21 @@ module _ (s t : Slab Node) (pages : FinMap nat_cmp Head) (txns : FinMap txn_cmp 
 -- ---- what the code makes of the slab and of the heads
 
 -- a place that no node of the list has is none of those beside a gap of it
-clear_gap : (key : ℕ) (xs ys : List Entry) → Differ key (xs ++ ys) → (turned_at (last_of None xs) (head_of ys None) (to_both key) key (Some (gap_of xs ys))) ≡ Some (gap_of xs ys)
+clear_gap : (key : ℕ) (xs ys : List Entry) → Differ key (xs ++ ys) → (turned_at (last_of None xs) (head_of ys None) (both_to key) key (Some (gap_of xs ys))) ≡ Some (gap_of xs ys)
 clear_gap key xs ys d =
     let p = all_parts (λ e. e.0 ≢ key) xs ys d in
-    turned_clear (gap_of xs ys) (to_both key) key (Some (gap_of xs ys)) (not_last None key xs refl (flip key xs p.0)) (not_head key ys p.1)
+    turned_clear (gap_of xs ys) (both_to key) key (Some (gap_of xs ys)) (not_last None key xs refl (flip key xs p.0)) (not_head key ys p.1)
 
 pub added_by : (s u v t : Slab Node) (pages pages' : FinMap nat_cmp Head) (txns txns' : FinMap txn_cmp Head) (n : Node) (key : ℕ) (es : List Entry)
-    → slab.get s key ≡ None → Updates s u key (Some n) → v ≡ rejoined side.Page u n.on_page (to_both key) → t ≡ rejoined side.Txn v n.of_txn (to_both key)
+    → slab.get s key ≡ None → Updates s u key (Some n) → v ≡ rejoined side.Page u n.on_page (both_to key) → t ≡ rejoined side.Txn v n.of_txn (both_to key)
     → pages' ≡ kept pages n.page.0 (Some (head_with (head_in (get pages n.page.0)) key n.on_page)) → txns' ≡ kept txns n.tag.txn (Some (head_with (head_in (get txns n.tag.txn)) key n.of_txn))
     → n.on_page ≡ gap_of (upto (tag_in n) (filter (on n.page.0) es)) (from (tag_in n) (filter (on n.page.0) es))
     → n.of_txn ≡ gap_of (upto (tag_in n) (filter (of n.tag.txn) es)) (from (tag_in n) (filter (of n.tag.txn) es))
     → Lacks (tag_in n) es → IsTable s pages txns es → IsTable t pages' txns' (upto (tag_in n) es ++ (key, tag_in n) ∷ from (tag_in n) es)
 added_by s u v t pages pages' txns txns' n key es absent up v_is t_is pages_is txns_is gap_p gap_t lacks l =
-    let r : Slab Node = relinked u n.on_page (to_both key) n.of_txn (to_both key) in
-    let t_is' : t ≡ r = t_is ∙ ap (λ (z : Slab Node). rejoined side.Txn z n.of_txn (to_both key)) v_is in
-    let w : Relinks s r key n.on_page (to_both key) n.of_txn (to_both key) = relinks s u key (Some n) n.on_page (to_both key) n.of_txn (to_both key) up in
+    let r : Slab Node = relinked u n.on_page (both_to key) n.of_txn (both_to key) in
+    let t_is' : t ≡ r = t_is ∙ ap (λ (z : Slab Node). rejoined side.Txn z n.of_txn (both_to key)) v_is in
+    let w : Relinks s r key n.on_page (both_to key) n.of_txn (both_to key) = relinks s u key (Some n) n.on_page (both_to key) n.of_txn (both_to key) up in
     let xs : List Entry = upto (tag_in n) es in
     let ys : List Entry = from (tag_in n) es in
     let l' : IsTable s pages txns (xs ++ ys) = subst (IsTable s pages txns) (upto_from (tag_in n) es) l in
@@ -133,17 +130,17 @@ added_by s u v t pages pages' txns txns' n key es absent up v_is t_is pages_is t
     gap_t ∙ (ap (λ (z : List Entry). gap_of z (from (tag_in n) (filter (of n.tag.txn) es))) (upto_filter (tag_in n) (of_txn n.tag.txn) es l.ascend)
     ∙ ap (λ (z : List Entry). gap_of (filter (of n.tag.txn) xs) z) (from_filter (tag_in n) (of_txn n.tag.txn) es l.ascend)) in
     let tag : tag_at r key ≡ Some (tag_in n) =
-    rejoined_tag side.Txn (rejoined side.Page u n.on_page (to_both key)) n.of_txn (to_both key) key ∙ (rejoined_tag side.Page u n.on_page (to_both key) key ∙ ap tag_of_node up.changed) in
-    let page_link : link_at side.Page r key ≡ turned_at n.on_page.prev n.on_page.next (to_both key) key (Some n.on_page) =
-    rejoined_other side.Txn (rejoined side.Page u n.on_page (to_both key)) n.of_txn (to_both key) key
-    ∙ (rejoined_link side.Page u n.on_page (to_both key) key ∙ ap (λ (o : Option Node). turned_at n.on_page.prev n.on_page.next (to_both key) key (link_of_node side.Page o)) up.changed) in
-    let txn_link : link_at side.Txn r key ≡ turned_at n.of_txn.prev n.of_txn.next (to_both key) key (Some n.of_txn) =
-    rejoined_link side.Txn (rejoined side.Page u n.on_page (to_both key)) n.of_txn (to_both key) key
-    ∙ ap (turned_at n.of_txn.prev n.of_txn.next (to_both key) key) (rejoined_other side.Page u n.on_page (to_both key) key ∙ ap (link_of_node side.Txn) up.changed) in
-    let clear_p : turned_at n.on_page.prev n.on_page.next (to_both key) key (Some n.on_page) ≡ Some n.on_page =
-    subst (λ (g : Link). turned_at g.prev g.next (to_both key) key (Some g) ≡ Some g) (sym at_p) (clear_gap key (filter (on n.page.0) xs) (filter (on n.page.0) ys) (all_join (λ e. e.0 ≢ key) (filter (on n.page.0) xs) (filter (on n.page.0) ys) (all_filter (λ e. e.0 ≢ key) (is_on n.page.0) xs p.0) (all_filter (λ e. e.0 ≢ key) (is_on n.page.0) ys p.1))) in
-    let clear_t : turned_at n.of_txn.prev n.of_txn.next (to_both key) key (Some n.of_txn) ≡ Some n.of_txn =
-    subst (λ (g : Link). turned_at g.prev g.next (to_both key) key (Some g) ≡ Some g) (sym at_t) (clear_gap key (filter (of n.tag.txn) xs) (filter (of n.tag.txn) ys) (all_join (λ e. e.0 ≢ key) (filter (of n.tag.txn) xs) (filter (of n.tag.txn) ys) (all_filter (λ e. e.0 ≢ key) (of_txn n.tag.txn) xs p.0) (all_filter (λ e. e.0 ≢ key) (of_txn n.tag.txn) ys p.1))) in
+    rejoined_tag side.Txn (rejoined side.Page u n.on_page (both_to key)) n.of_txn (both_to key) key ∙ (rejoined_tag side.Page u n.on_page (both_to key) key ∙ ap tag_of_node up.changed) in
+    let page_link : link_at side.Page r key ≡ turned_at n.on_page.prev n.on_page.next (both_to key) key (Some n.on_page) =
+    rejoined_other side.Txn (rejoined side.Page u n.on_page (both_to key)) n.of_txn (both_to key) key
+    ∙ (rejoined_link side.Page u n.on_page (both_to key) key ∙ ap (λ (o : Option Node). turned_at n.on_page.prev n.on_page.next (both_to key) key (link_of_node side.Page o)) up.changed) in
+    let txn_link : link_at side.Txn r key ≡ turned_at n.of_txn.prev n.of_txn.next (both_to key) key (Some n.of_txn) =
+    rejoined_link side.Txn (rejoined side.Page u n.on_page (both_to key)) n.of_txn (both_to key) key
+    ∙ ap (turned_at n.of_txn.prev n.of_txn.next (both_to key) key) (rejoined_other side.Page u n.on_page (both_to key) key ∙ ap (link_of_node side.Txn) up.changed) in
+    let clear_p : turned_at n.on_page.prev n.on_page.next (both_to key) key (Some n.on_page) ≡ Some n.on_page =
+    subst (λ (g : Link). turned_at g.prev g.next (both_to key) key (Some g) ≡ Some g) (sym at_p) (clear_gap key (filter (on n.page.0) xs) (filter (on n.page.0) ys) (all_join (λ e. e.0 ≢ key) (filter (on n.page.0) xs) (filter (on n.page.0) ys) (all_filter (λ e. e.0 ≢ key) (is_on n.page.0) xs p.0) (all_filter (λ e. e.0 ≢ key) (is_on n.page.0) ys p.1))) in
+    let clear_t : turned_at n.of_txn.prev n.of_txn.next (both_to key) key (Some n.of_txn) ≡ Some n.of_txn =
+    subst (λ (g : Link). turned_at g.prev g.next (both_to key) key (Some g) ≡ Some g) (sym at_t) (clear_gap key (filter (of n.tag.txn) xs) (filter (of n.tag.txn) ys) (all_join (λ e. e.0 ≢ key) (filter (of n.tag.txn) xs) (filter (of n.tag.txn) ys) (all_filter (λ e. e.0 ≢ key) (of_txn n.tag.txn) xs p.0) (all_filter (λ e. e.0 ≢ key) (of_txn n.tag.txn) ys p.1))) in
     let done = added s r pages txns n key xs ys none w tag (page_link ∙ clear_p) (txn_link ∙ clear_t) at_p at_t (below (tag_in n) es) (above (tag_in n) es l.ascend lacks) l' in
     subst (λ (z : Slab Node). IsTable z pages' txns' (xs ++ (key, tag_in n) ∷ ys)) (sym t_is')
     (subst (λ (m : FinMap nat_cmp Head). IsTable r m txns' (xs ++ (key, tag_in n) ∷ ys)) (sym pages_is)

@@ -1,18 +1,18 @@
 -- What is asked of the set, and what is found along the lists.
-use Rattle.std.proofs.Common.{◌≡◌, ◌≢◌, ℕ, suc, zero, Bool, true, false, cond, List, [], ◌∷◌, ◌++◌, refl, ap, sym, subst, ◌∙◌, arith}
+use Rattle.std.proofs.Common.{◌≡◌, ℕ, Bool, true, false, cond, List, [], ◌∷◌, refl, ap, sym, ◌∙◌, arith}
 use Rattle.std.specs.Prelude.{nat_eq, nat_lt, not, ◌&&◌, filter, map}
 use Rattle.std.specs.List.{AllByRecursion}
 use Rattle.std.specs.Ordering.{nat_cmp, is_lt, ordering_then, is_eq}
-use Rattle.std.specs.Cmp.{unsigned_tied, nat_cmp_total, tied_itself}
+use Rattle.std.specs.Cmp.{unsigned_tied}
 use Rattle.std.specs.Cmp.Lexicographic.{slice_cmp, pointwise, texts_ties}
 use Rattle.std.specs.declared.cmp.Ordering.{Ordering}
 use Rattle.std.specs.declared.cmp.Ordering.TheVariants.{Less, Equal, Greater}
 use Rattle.std.specs.declared.option.Option.{Option}
 use Rattle.std.specs.declared.option.Option.TheVariants.{None, Some}
 use Rattle.std.proofs.lemmas.Bool.Decides.{nat_tests}
-use Rattle.tm_base.specs.declared.message.Tag.{Tag}
+use Rattle.key_fences.specs.Fences.{key_less}
 use Rattle.tm_data.specs.declared.transaction.Txn.{Txn}
-use Rattle.lock_table.specs.Tags.{PageTag, Tags, tag_cmp, tag_of, is_on, is_on_key, same_txn, page_tag, first, txn_of, items, set_of, conflict, foreign}
+use Rattle.lock_table.specs.Tags.{PageTag, Tags, tag_cmp, tag_of, is_on, is_on_key, same_txn, page_tag, first, txn_of, set_of, conflict, foreign}
 use Rattle.lock_table.specs.Inside.{Entry, Ascend, Stand, tags_in, on, foreign_in, other_in, from, least}
 use Rattle.lock_table.proofs.Filters.{passes}
 use Rattle.lock_table.proofs.Views.{tags}
@@ -103,6 +103,18 @@ not_under page key x h =
     let k = key_tied x.key key (and_right (is_on page x) (pointwise nat_eq x.key key) h) in
     then_not (nat_cmp x.page page) (ordering_then (slice_cmp nat_cmp x.key key) (ordering_then (nat_cmp x.txn.writer.0 0) (nat_cmp x.txn.number 0))) (ap is_lt p)
     (then_not (slice_cmp nat_cmp x.key key) (ordering_then (nat_cmp x.txn.writer.0 0) (nat_cmp x.txn.number 0)) (ap is_lt k) (then_not (nat_cmp x.txn.writer.0 0) (nat_cmp x.txn.number 0) (zero_least x.txn.writer.0) (zero_least x.txn.number)))
+
+lt_then : (o p : Ordering) → is_lt p ≡ false → is_lt (ordering_then o p) ≡ is_lt o
+lt_then Less p h = refl
+lt_then Equal p h = h
+lt_then Greater p h = refl
+
+-- on one page what is below the least tag on a key has a smaller key
+pub below_key : (page : ℕ) (key : List ℕ) (x : PageTag) → is_on page x ≡ true → is_lt (tag_cmp x (page_tag page key least)) ≡ key_less x.key key
+below_key page key x h =
+    let p = ordering_then (nat_cmp x.txn.writer.0 0) (nat_cmp x.txn.number 0) in
+    ap (λ (o : Ordering). is_lt (ordering_then o (ordering_then (slice_cmp nat_cmp x.key key) p))) (page_tied page x h)
+    ∙ lt_then (slice_cmp nat_cmp x.key key) p (then_not (nat_cmp x.txn.writer.0 0) (nat_cmp x.txn.number 0) (zero_least x.txn.writer.0) (zero_least x.txn.number))
 
 off_below : (page : ℕ) (key : List ℕ) (x : PageTag) → is_lt (tag_cmp x (page_tag page key least)) ≡ true → is_on_key page key x ≡ false
 off_below page key x h = at (is_on_key page key x) refl

@@ -10,3 +10,6 @@ mod Views
 mod Values
 mod Seeks
 mod Asked
+mod Moved
+mod Moving
+mod Putting

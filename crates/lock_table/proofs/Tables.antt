@@ -47,7 +47,7 @@ apart_without : (e : Entry) (xs ys : List Entry) → AreApart (xs ++ e ∷ ys) �
 apart_without e [] ys a = a.1
 apart_without e (x ∷ xs) ys a = (all_without (λ z. z.0 ≢ x.0) e xs ys a.0, apart_without e xs ys a.1)
 
-apart_at : (e : Entry) (xs ys : List Entry) → AreApart (xs ++ e ∷ ys) → Differ e.0 xs × Differ e.0 ys
+pub apart_at : (e : Entry) (xs ys : List Entry) → AreApart (xs ++ e ∷ ys) → Differ e.0 xs × Differ e.0 ys
 apart_at e [] ys a = (tt, a.0)
 apart_at e (x ∷ xs) ys a = let r = apart_at e xs ys a.1 in (((λ s. all_at (λ z. z.0 ≢ x.0) e xs ys a.0 (sym s)), r.0), r.1)
 
@@ -168,12 +168,20 @@ push : (b : Bool) (x y : Option Head) → head_in (cond b x y) ≡ cond b (head_
 push true x y = refl
 push false x y = refl
 
+not_tied : (q k : ℕ) → q ≢ k → nat_eq q k ≡ false
+not_tied q k other = grind (arith, nat_tests)
+
 kept_at : {K : Type 0} {R : K → K → Ordering} → IsTotalOrder R → (m : FinMap R Head) (k : K) (o : Option Head) (q : K) → head_in (get (kept m k o) q) ≡ cond (eq_by_cmp R q k) (head_in o) (head_in (get m q))
 kept_at {K} {R} total m k None q = ap head_in (get-remove total m k q) ∙ push (eq_by_cmp R q k) None (get m q)
 kept_at {K} {R} total m k (Some h) q = ap head_in (get-insert total m k h q) ∙ push (eq_by_cmp R q k) (Some h) (get m q)
 
 pub page_kept : (m : FinMap nat_cmp Head) (k : ℕ) (o : Option Head) (q : ℕ) → head_in (get (kept m k o) q) ≡ cond (nat_eq q k) (head_in o) (head_in (get m q))
 page_kept m k o q = kept_at nat_cmp_total m k o q ∙ ap (λ (b : Bool). cond b (head_in o) (head_in (get m q))) (unsigned_tied q k)
+
+-- no other head is another one
+pub kept_other : (m : FinMap nat_cmp Head) (k : ℕ) (o : Option Head) (q : ℕ) → q ≢ k → get (kept m k o) q ≡ get m q
+kept_other m k None q other = get-remove nat_cmp_total m k q ∙ ap (λ (b : Bool). cond b None (get m q)) (unsigned_tied q k ∙ not_tied q k other)
+kept_other m k (Some h) q other = get-insert nat_cmp_total m k h q ∙ ap (λ (b : Bool). cond b (Some h) (get m q)) (unsigned_tied q k ∙ not_tied q k other)
 
 then_eq : (a b : Ordering) → is_eq (ordering_then a b) ≡ (is_eq a && is_eq b)
 then_eq Less b = refl

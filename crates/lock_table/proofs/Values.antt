@@ -233,7 +233,7 @@ contains_any s es v t l is =
 pub contains_none : (s : Nodes) (es : List Entry) (v : Tags) (t : PageTag) → Stand s es → set_of (tags_in s.slab) ≡ v → Lacks t es → fin.contains_key v t ≡ false
 contains_none s es v t l is none = contains_any s es v t l is ∙ none_equal t es none
 
-found_at : (s : Slab Node) (t : PageTag) (at : Option ℕ) (es : List Entry) → Here (tag_at s) es → ((k : ℕ) → IsSome (tag_at s k) → IsIn k es) → is_tag t (at_place s at) ≡ true → list_any (eq_by_cmp tag_cmp t) (tags es) ≡ true
+pub found_at : (s : Slab Node) (t : PageTag) (at : Option ℕ) (es : List Entry) → Here (tag_at s) es → ((k : ℕ) → IsSome (tag_at s k) → IsIn k es) → is_tag t (at_place s at) ≡ true → list_any (eq_by_cmp tag_cmp t) (tags es) ≡ true
 found_at s t None es here all h = absurd (cc (h))
 found_at s t (Some k) es here all h = at (tag_at s k) refl h
   where
@@ -253,7 +253,7 @@ contains_found s es v t at l is h = contains_any s es v t l is ∙ found_at s.sl
 
 -- ---- one more
 
-any_mid : (p : PageTag → Bool) (e : Entry) (xs ys : List Entry) → list_any p (tags (xs ++ e ∷ ys)) ≡ (p e.1 || list_any p (tags (xs ++ ys)))
+pub any_mid : (p : PageTag → Bool) (e : Entry) (xs ys : List Entry) → list_any p (tags (xs ++ e ∷ ys)) ≡ (p e.1 || list_any p (tags (xs ++ ys)))
 any_mid p e [] ys = refl
 any_mid p e (x ∷ xs) ys = ap (λ (b : Bool). p x.1 || b) (any_mid p e xs ys) ∙ swap (p x.1) (p e.1) (list_any p (tags (xs ++ ys)))
   where

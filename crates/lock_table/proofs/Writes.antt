@@ -6,6 +6,7 @@ use Rattle.std.specs.declared.option.Option.TheVariants.{None, Some}
 use Rattle.std.proofs.lemmas.Bool.Decides.{nat_tests}
 use Rattle.slab.specs.Slab.{Slab, get, with_value, ContainsKey}
 use Rattle.slab.proofs.SlabLemmas.{Updates-with_value}
+use Rattle.tm_base.specs.declared.message.Tag.{Tag}
 use Rattle.lock_table.specs.declared.node.Link.{Link}
 use Rattle.lock_table.specs.declared.node.Node.{Node}
 use Rattle.lock_table.specs.declared.node.Side.{Side}
@@ -75,6 +76,37 @@ both_at on s gap to e n h = prev_at on (with_next on s gap.prev to.next) gap.nex
 
 both_absent : (on : Side) (s : Slab Node) (gap to : Link) (e : ℕ) → get s e ≡ None → get (rejoined on s gap to) e ≡ None
 both_absent on s gap to e h = prev_absent on (with_next on s gap.prev to.next) gap.next to.prev e (next_absent on s gap.prev to.next e h)
+
+-- a write changes each node by itself
+pub rejoined_same : (on : Side) (s t : Slab Node) (gap to : Link) (e : ℕ) → get t e ≡ get s e → get (rejoined on t gap to) e ≡ get (rejoined on s gap to) e
+rejoined_same on s t gap to e same = by (get s e) refl
+  where
+    by : (o : Option Node) → get s e ≡ o → get (rejoined on t gap to) e ≡ get (rejoined on s gap to) e
+    by None is = both_absent on t gap to e (same ∙ is) ∙ sym (both_absent on s gap to e is)
+    by (Some n) is = both_at on t gap to e n (same ∙ is) ∙ sym (both_at on s gap to e n is)
+
+tag_stays : (on : Side) (b c : Bool) (to : Link) (n : Node) → (both on b c to n).tag ≡ n.tag
+tag_stays side.Page true true to n = refl
+tag_stays side.Page true false to n = refl
+tag_stays side.Page false true to n = refl
+tag_stays side.Page false false to n = refl
+tag_stays side.Txn true true to n = refl
+tag_stays side.Txn true false to n = refl
+tag_stays side.Txn false true to n = refl
+tag_stays side.Txn false false to n = refl
+
+-- a node with this tag of a slab
+pub record Held (s : Slab Node) (key : ℕ) (tag : Tag) : Type 0 where
+  pub node : Node
+  pub there : get s key ≡ Some node
+  pub tag_is : node.tag ≡ tag
+
+pub rejoined_held : (on : Side) (s : Slab Node) (gap to : Link) (key : ℕ) (tag : Tag) → Held s key tag → Held (rejoined on s gap to) key tag
+rejoined_held on s gap to key tag h =
+    record { node = both on (is_at gap.prev key) (is_at gap.next key) to h.node; there = both_at on s gap to key h.node h.there; tag_is = tag_stays on (is_at gap.prev key) (is_at gap.next key) to h.node ∙ h.tag_is }
+
+pub rejoined_absent : (on : Side) (s : Slab Node) (gap to : Link) (key : ℕ) → get s key ≡ None → get (rejoined on s gap to) key ≡ None
+rejoined_absent on s gap to key h = both_absent on s gap to key h
 
 both_tag : (on : Side) (b c : Bool) (to : Link) (n : Node) → tag_in (both on b c to n) ≡ tag_in n
 both_tag side.Page true true to n = refl

@@ -18,6 +18,7 @@ use Rattle.lock_table.specs.declared.node.Link.{Link}
 use Rattle.lock_table.specs.declared.node.Node.{Node}
 use Rattle.lock_table.specs.declared.node.Side.{Side}
 use Rattle.lock_table.specs.declared.node.Side.TheVariants as side
+use Rattle.tm_data.specs.declared.transaction.Page.{Page}
 use Rattle.lock_table.specs.Tags.{PageTag, tag_of, is_on_key, is_on, same_txn, tag_cmp}
 
 -- ---- a node, and what is written to it
@@ -215,6 +216,33 @@ is_tag t (Some x) = is_eq (tag_cmp x t)
 abbrev pub at_place : Slab Node → Option ℕ → Option PageTag
 at_place s None = None
 at_place s (Some at) = tag_at s at
+
+-- ---- a node that moves
+
+-- The nodes after one with these links has left its lists. The head of its transaction's list is not written yet.
+abbrev pub unlinked : Nodes → ℕ → Link → Link → Nodes
+unlinked n page on_page of_txn =
+    record {
+      slab = rejoined side.Txn (rejoined side.Page n.slab on_page on_page) of_txn of_txn;
+      pages = kept n.pages page (shorter (head_in (map.get n.pages page)) on_page);
+      txns = n.txns;
+    }
+
+-- The nodes after one has come into these gaps, up to the head of its transaction's list.
+abbrev pub both_to : ℕ → Link
+both_to key = record { prev = Some key; next = Some key }
+
+abbrev pub joined : Nodes → ℕ → ℕ → Link → Link → Nodes
+joined n key page on_page of_txn =
+    record {
+      slab = rejoined side.Txn (rejoined side.Page n.slab on_page (both_to key)) of_txn (both_to key);
+      pages = kept n.pages page (Some (head_with (head_in (map.get n.pages page)) key on_page));
+      txns = n.txns;
+    }
+
+-- The node on another page, in these gaps.
+abbrev pub settled : Page → Link → Link → Node → Node
+settled page on_page of_txn n = record n { page = page; on_page = on_page; of_txn = of_txn }
 
 -- ---- what is sought along a list
 

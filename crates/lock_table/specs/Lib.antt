@@ -1,2 +1,4 @@
 pub mod Tags
 pub mod Inside
+pub mod Moving
+pub mod Putting

@@ -1,6 +1,7 @@
 //! The nodes of the lists, and how they are linked.
 ghost use Rattle.std.specs.Prelude.{◌≡◌};
-ghost use Rattle.lock_table.specs.Inside.{link_in, with_next, with_prev, rejoined};
+ghost use Rattle.slab.specs.Slab.{get};
+ghost use Rattle.lock_table.specs.Inside.{link_in, with_next, with_prev, rejoined, changed, settled};
 
 use slab::Slab;
 use tm_base::{Page, Tag};
@@ -74,4 +75,15 @@ pub(crate) fn rejoin(nodes: &mut Slab<Node>, side: Side, gap: Link, link: Link)
 {
     set_next(nodes, side, gap.prev, link.next);
     set_prev(nodes, side, gap.next, link.prev);
+}
+
+/// The node at a place, if there is one, stands on another page, in these gaps.
+pub(crate) fn settle(nodes: &mut Slab<Node>, at: usize, page: Page, on_page: Link, of_txn: Link)
+    ensures { nodes.new ≡ changed nodes.old at (settled page on_page of_txn) (get nodes.old at) }
+{
+    if let Some(node) = nodes.get_mut(at) {
+        node.page = page;
+        node.on_page = on_page;
+        node.of_txn = of_txn;
+    }
 }

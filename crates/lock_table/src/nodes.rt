@@ -1,20 +1,23 @@
 //! The nodes of all tags, with their lists.
-ghost use Rattle.std.specs.Prelude.{◌≡◌, ◌≤◌, ℕ, Option, None, length, ◌+◌, ◌++◌, ◌∷◌, [], List, Some, OnOk, filter};
+ghost use Rattle.std.specs.Prelude.{◌≡◌, ◌≢◌, ◌≤◌, ◌<◌, ◌^◌, IsSome, ℕ, Option, None, length, ◌+◌, ◌++◌, ◌∷◌, [], List, Some, OnOk, OnErr, filter};
 ghost use Rattle.std.specs.Option.{option_copied};
 ghost use Rattle.slab.specs.Slab as slab;
 ghost use Rattle.std.specs.List.{AllByRecursion};
-ghost use Rattle.slab.specs.Slab.{ContainsKey};
+ghost use Rattle.slab.specs.Slab.{ContainsKey, HasRoomFor};
 ghost use Rattle.std.specs.FinMap as map;
 ghost use Rattle.lock_table.specs.Tags.{is_on_key, PageTag, tag_of, tag_cmp, page_tag};
 ghost use Rattle.lock_table.specs.declared.node.Side.TheVariants as side;
-ghost use Rattle.lock_table.specs.Inside.{foreign_in, other_in, least, head_of, IsLinked, Entry, Stand, IsList, tag_in, tag_at, link_at, head_in, kept, shorter, gap_of, upto, from, on, Lacks, IsOpen, IsSame, is_tag, at_place};
+ghost use Rattle.lock_table.specs.Putting.{HasPlace, IsReady, Grows, Stays, HavePut};
+ghost use Rattle.lock_table.specs.Moving.{to_page, Moves, HaveMoved};
+ghost use Rattle.lock_table.specs.Inside.{foreign_in, other_in, least, head_of, IsLinked, Entry, Stand, IsList, tag_in, tag_at, link_at, head_in, kept, shorter, gap_of, upto, from, on, Lacks, IsOpen, IsSame, is_tag, at_place, unlinked, joined};
 
 use crate::heads::{Head, PageHeads, set_txn};
-use crate::node::{Link, Node, Side, rejoin};
+use crate::node::{Link, Node, Side, rejoin, settle};
 use slab::Slab;
 use std::alloc::Global;
 use std::cmp::Ordering;
-use std::sync::ledger::Ledger;
+use std::marker::Brand;
+use std::sync::ledger::{Blank, Ledger};
 use tm_base::{Key, Mem, NoMemory, Page, Steps, Tag, Txn, TxnMap, Writer};
 
 /// All tags, each a node of the slab, which stands in the list of its page and in that of its transaction.
@@ -174,13 +177,6 @@ impl Nodes {
         or_empty(self.txns.get(&txn).copied()).first
     }
 
-    /// The node at a place.
-    pub(crate) fn get(&self, at: usize) -> Option<&Node>
-        ensures { option_copied result ≡ slab.get self.now.slab at }
-    {
-        self.slab.get(at)
-    }
-
     /// Where a tag has its place in the list of its page: in front of the first one that isn't below it.
     pub(crate) fn place(&self, page: Page, key: &Key, txn: Txn) -> Link
         ensures { (es : List Entry) → Stand self.now es
@@ -255,16 +251,167 @@ impl Nodes {
         Ok(())
     }
 
+    /// What stands before and behind a node on its page and of its transaction is linked past it, and its page's
+    /// list is shorter.
+    fn unlink(&mut self, page: Page, on_page: Link, of_txn: Link)
+        ensures { self.new ≡ unlinked self.old page.0 on_page of_txn }
+    {
+        rejoin(&mut self.slab, Side::Page, on_page, on_page);
+        rejoin(&mut self.slab, Side::Txn, of_txn, of_txn);
+        shorten_page(&mut self.pages, page.0, on_page);
+    }
+
+    /// What stands before and behind these gaps is linked to a node, and its page's list, which has a head, is longer.
+    fn join(&mut self, key: usize, page: Page, on_page: Link, of_txn: Link)
+        requires there { IsSome (map.get self.old.pages page.0) }
+        requires fits { (head_in (map.get self.old.pages page.0)).count + 1 < 2 ^ 64 }
+        ensures { self.new ≡ joined self.old key page.0 on_page of_txn }
+    {
+        let head = or_empty(self.pages.get(page.0));
+        let link = Link {
+            prev: Some(key),
+            next: Some(key),
+        };
+        rejoin(&mut self.slab, Side::Page, on_page, link);
+        rejoin(&mut self.slab, Side::Txn, of_txn, link);
+        self.pages.set(page.0, head.with(key, on_page));
+    }
+
+    /// The gap for the tag of a node, on another page, among the transaction's tags in the list of a head.
+    fn gap_for(&self, key: usize, head: Head, page: Page) -> Link
+        ensures { (n : Node) (es : List Entry) → slab.get self.now.slab key ≡ Some n → IsList (link_at side.Txn self.now.slab) head es
+            → AllByRecursion (λ e. tag_at self.now.slab e.0 ≡ Some e.1) es
+            → result ≡ gap_of (upto (page_tag page.0 n.tag.key n.tag.txn) es) (from (page_tag page.0 n.tag.key n.tag.txn) es) }
+    {
+        let Some(node) = self.slab.get(key) else {
+            return Link {
+                prev: None,
+                next: None,
+            };
+        };
+        gap(
+            &self.slab,
+            Side::Txn,
+            head,
+            page,
+            &node.tag.key,
+            node.tag.txn,
+        )
+    }
+
+    /// Moves a node to its place on another page, where no tag is like it and whose list has a head. It takes no
+    /// memory.
+    fn settle_on(&mut self, key: usize, to: Page, on_page: Link)
+        requires there { IsSome (map.get self.old.pages to.0) }
+        requires fits { (head_in (map.get self.old.pages to.0)).count + 1 < 2 ^ 64 }
+        requires apart { (t : PageTag) → tag_at self.old.slab key ≡ Some t → to.0 ≢ t.page }
+        ensures there { IsSome (map.get self.new.pages to.0) }
+        ensures count { (head_in (map.get self.new.pages to.0)).count ≤ (head_in (map.get self.old.pages to.0)).count + 1 }
+        ensures moved { (xs ys : List Entry) (t : PageTag) → Stand self.old (xs ++ (key, t) ∷ ys)
+            → on_page ≡ gap_of (upto (to_page to.0 t) (filter (on to.0) (xs ++ ys))) (from (to_page to.0 t) (filter (on to.0) (xs ++ ys)))
+            → Lacks (to_page to.0 t) (xs ++ ys)
+            → Stand self.new (upto (to_page to.0 t) (xs ++ ys) ++ (key, to_page to.0 t) ∷ from (to_page to.0 t) (xs ++ ys)) }
+    {
+        let Some(node) = self.slab.get(key) else {
+            return;
+        };
+        let (page, txn, was_on, was_of) = (node.page, node.tag.txn, node.on_page, node.of_txn);
+        let Some(txn_head) = self.txns.get(&txn).copied() else {
+            return;
+        };
+        self.unlink(page, was_on, was_of);
+        let rest = or_empty(txn_head.without(was_of));
+        let of_txn = self.gap_for(key, rest, to);
+        settle(&mut self.slab, key, to, on_page, of_txn);
+        self.join(key, to, on_page, of_txn);
+        set_txn(&mut self.txns, txn, rest.with(key, of_txn));
+    }
+
+    /// Takes out a node that was to stand where one stands already: tags that are alike are one. No tag is lost by
+    /// it, and so it counts in no ledger of a caller's.
+    fn merge<L: Ledger>(&mut self, key: usize, blank: Blank)
+        requires held { ContainsKey self.old.slab key }
+        requires ledger { (blank.name ≡ L.name) × (blank.parts ≡ L.parts) × (1 ≤ blank.parts) }
+        ensures removed { (xs ys : List Entry) (t : PageTag) → Stand self.old (xs ++ (key, t) ∷ ys) → Stand self.new (xs ++ ys) }
+        ensures others { (p : ℕ) → (t : PageTag) → tag_at self.old.slab key ≡ Some t → p ≢ t.page → map.get self.new.pages p ≡ map.get self.old.pages p }
+    {
+        let mut steps = Steps::<L>::new(blank);
+        self.remove(key, &mut steps);
+    }
+
+    /// Moves a node to another page, and tells which node followed it on its own. Where a tag like it stands there
+    /// already, the node goes. It takes no memory.
+    fn move_node(&mut self, key: usize, to: Page) -> Option<usize>
+        requires there { IsSome (map.get self.old.pages to.0) }
+        requires fits { (head_in (map.get self.old.pages to.0)).count + 1 < 2 ^ 64 }
+        ensures there { IsSome (map.get self.new.pages to.0) }
+        ensures count { (head_in (map.get self.new.pages to.0)).count ≤ (head_in (map.get self.old.pages to.0)).count + 1 }
+        ensures moved { (xs ys : List Entry) (t : PageTag) → Stand self.old (xs ++ (key, t) ∷ ys) → to.0 ≢ t.page
+            → (result ≡ head_of (filter (on t.page) ys) None) × Moves key to.0 t (xs ++ ys) self.new }
+    {
+        let Some(node) = self.slab.get(key) else {
+            return None;
+        };
+        if node.page == to {
+            return None;
+        }
+        let (txn, next) = (node.tag.txn, node.on_page.next);
+        let place = self.place(to, &node.tag.key, txn);
+        if self.holds(place.next, to, &node.tag.key, txn) {
+            self.merge::<Brand>(key, Blank::new(1));
+            return next;
+        }
+        self.settle_on(key, to, place);
+        next
+    }
+
+    /// Makes room for the head of a page's list, to which so many tags may come. With want of memory nothing changes.
+    fn open_page(&mut self, page: Page, more: usize) -> Mem<()>
+        ensures same { IsSame self.old self.new }
+        ensures there { OnOk result (IsSome (map.get self.new.pages page.0)) }
+        ensures fits { OnOk result ((head_in (map.get self.new.pages page.0)).count + more < 2 ^ 64) }
+    {
+        let head = or_empty(self.pages.get(page.0));
+        if head.count > usize::MAX - more {
+            return Err(NoMemory);
+        }
+        self.pages.put(page.0, head)?;
+        Ok(())
+    }
+
+    /// Moves the tags of a page whose keys are at `at` or above to another page. With want of memory nothing changes.
+    pub(crate) fn move_from(&mut self, page: Page, at: &Key, to: Page) -> Mem<()>
+        requires { to.0 ≢ page.0 }
+        ensures moved { OnOk result ((es : List Entry) → Stand self.old es → HaveMoved page.0 at.now to.0 es self.new) }
+        ensures err { OnErr result (IsSame self.old self.new) }
+    {
+        let mut next = self.place(page, at, LEAST).next;
+        if next.is_none() {
+            return Ok(());
+        }
+        let most = self.count_on(page);
+        self.open_page(to, most)?;
+        for _ in 0..most {
+            let Some(key) = next else {
+                return Ok(());
+            };
+            next = self.move_node(key, to);
+        }
+        Ok(())
+    }
+
     /// Puts a tag that isn't there into its place, for which there is room.
     pub(crate) fn insert(&mut self, page: Page, tag: Tag, on_page: Link)
         requires { IsOpen self.old page.0 tag.txn }
-        ensures { (es : List Entry) → Stand self.old es
+        ensures stand { (es : List Entry) → Stand self.old es
             → on_page ≡ gap_of (upto (page_tag page.0 tag.key tag.txn) (filter (on page.0) es)) (from (page_tag page.0 tag.key tag.txn) (filter (on page.0) es))
             → Lacks (page_tag page.0 tag.key tag.txn) es
             → Stand self.new (upto (page_tag page.0 tag.key tag.txn) es ++ (self.old.slab.vacant_key, page_tag page.0 tag.key tag.txn) ∷ from (page_tag page.0 tag.key tag.txn) es) }
+        ensures room { (more : ℕ) → HasRoomFor self.old.slab (more + 1) → HasRoomFor self.new.slab more }
+        ensures pages { (p : ℕ) → Grows (map.get self.old.pages p) (map.get self.new.pages p) }
+        ensures txns { (x : Txn) → Grows (map.get self.old.txns x) (map.get self.new.txns x) }
     {
         let txn = tag.txn;
-        let page_head = or_empty(self.pages.get(page.0));
         let txn_head = or_empty(self.txns.get(&txn).copied());
         let of_txn = gap(&self.slab, Side::Txn, txn_head, page, &tag.key, txn);
         let key = self.slab.insert_reserved(Node {
@@ -273,14 +420,64 @@ impl Nodes {
             on_page,
             of_txn,
         });
-        let link = Link {
-            prev: Some(key),
-            next: Some(key),
-        };
-        rejoin(&mut self.slab, Side::Page, on_page, link);
-        rejoin(&mut self.slab, Side::Txn, of_txn, link);
-        self.pages.set(page.0, page_head.with(key, on_page));
+        self.join(key, page, on_page, of_txn);
         set_txn(&mut self.txns, txn, txn_head.with(key, of_txn));
+    }
+
+    /// Puts a tag into its place on a page, for which there is room, unless it is there. It takes no memory.
+    fn put(&mut self, page: Page, tag: Tag)
+        requires { IsOpen self.old page.0 tag.txn }
+        ensures put { (es : List Entry) → Stand self.old es → HavePut page.0 (tag ∷ []) es self.new }
+        ensures room { (more : ℕ) → HasRoomFor self.old.slab (more + 1) → HasRoomFor self.new.slab more }
+        ensures pages { (p : ℕ) → Grows (map.get self.old.pages p) (map.get self.new.pages p) }
+        ensures txns { (x : Txn) → Grows (map.get self.old.txns x) (map.get self.new.txns x) }
+    {
+        let place = self.place(page, &tag.key, tag.txn);
+        if self.holds(place.next, page, &tag.key, tag.txn) {
+            return;
+        }
+        self.insert(page, tag, place);
+    }
+
+    /// Puts tags into their places on a page, for which there is room, but those that are there. It takes no memory.
+    pub(crate) fn put_all(&mut self, page: Page, tags: Vec<Tag>)
+        requires { IsReady self.old page.0 (length tags.items) tags.items }
+        ensures { (es : List Entry) → Stand self.old es → HavePut page.0 tags.items es self.new }
+    {
+        let mut rest = tags;
+        while let Some(tag) = rest.pop() {
+            self.put(page, tag);
+        }
+    }
+
+    /// Makes room for the head of a transaction's list, to which so many tags may come.
+    fn open_txn(&mut self, txn: Txn, more: usize) -> Mem<()>
+        ensures rest { (self.new.slab ≡ self.old.slab) × (self.new.pages ≡ self.old.pages) }
+        ensures same { (x : Txn) → Stays (map.get self.old.txns x) (map.get self.new.txns x) }
+        ensures ok { OnOk result (HasPlace more (map.get self.new.txns txn)) }
+    {
+        let head = or_empty(self.txns.get(&txn).copied());
+        if head.count > usize::MAX - more {
+            return Err(NoMemory);
+        }
+        let Ok(_) = self.txns.insert(txn, head) else {
+            return Err(NoMemory);
+        };
+        Ok(())
+    }
+
+    /// Makes room for tags on a page: for their nodes, and for the heads of all lists. With want of memory nothing
+    /// changes but that empty lists may have a head.
+    pub(crate) fn open_all(&mut self, page: Page, tags: &[Tag]) -> Mem<()>
+        ensures same { IsSame self.old self.new }
+        ensures ok { OnOk result (IsReady self.new page.0 (length tags.now) tags.now) }
+    {
+        self.open_page(page, tags.len())?;
+        self.slab.reserve(tags.len())?;
+        for tag in tags {
+            self.open_txn(tag.txn, tags.len())?;
+        }
+        Ok(())
     }
 
     /// Takes a node out of both of its lists and out of the slab, which is one step.
@@ -288,11 +485,10 @@ impl Nodes {
         requires { ContainsKey self.old.slab key }
         ensures step { steps.new ≡ steps.old + 1 }
         ensures removed { (xs ys : List Entry) (t : PageTag) → Stand self.old (xs ++ (key, t) ∷ ys) → (result ≡ tag_of t) × Stand self.new (xs ++ ys) }
+        ensures others { (p : ℕ) → (t : PageTag) → tag_at self.old.slab key ≡ Some t → p ≢ t.page → map.get self.new.pages p ≡ map.get self.old.pages p }
     {
         let node = self.slab.remove(key);
-        rejoin(&mut self.slab, Side::Page, node.on_page, node.on_page);
-        rejoin(&mut self.slab, Side::Txn, node.of_txn, node.of_txn);
-        shorten_page(&mut self.pages, node.page.0, node.on_page);
+        self.unlink(node.page, node.on_page, node.of_txn);
         shorten_txn(&mut self.txns, node.tag.txn, node.of_txn);
         steps.tick();
         node.tag

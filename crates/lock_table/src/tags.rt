@@ -3,7 +3,7 @@ ghost use Rattle.std.specs.Prelude.{◌≡◌, ◌+◌, ◌∷◌, [], length, f
 ghost use Rattle.std.specs.Result.{IsErrOf};
 ghost use Rattle.std.specs.Option.{option_copied};
 ghost use Rattle.std.specs.FinMap as fin;
-ghost use Rattle.lock_table.specs.Tags.{no_tags, with_tag, takes, page_tag, tag_of, tags_on, tags_of, without_txn, without_page, same_txn, is_on, items, conflict, foreign};
+ghost use Rattle.lock_table.specs.Tags.{no_tags, with_tag, takes, page_tag, tag_of, tags_on, tags_of, without_txn, without_page, same_txn, is_on, items, conflict, foreign, moved, with_tags};
 ghost use Rattle.lock_table.specs.declared.tags.TagError.TheVariants as TagError;
 
 use crate::nodes::Nodes;
@@ -144,6 +144,34 @@ impl Tags {
             tags.push(tag)?;
         }
         Ok(TagList::from_vec(tags))
+    }
+
+    /// Moves the tags of a page whose keys are at `at` or above to the page `to`. No tag is taken out, and no step is
+    /// counted; where a tag like one of them stands on `to` already, the two are one. With want of memory nothing
+    /// changes.
+    pub fn move_from(&mut self, page: Page, at: &Key, to: Page) -> Mem<()>
+        ensures ok { OnOk result (self.new ≡ moved self.old page.0 at.now to.0) }
+        ensures err { OnErr result (self.new ≡ self.old) }
+    {
+        if page == to {
+            return Ok(());
+        }
+        self.nodes.move_from(page, at, to)?;
+        Ok(())
+    }
+
+    /// Adds tags to those of a page, however many there are. With want of memory nothing changes.
+    pub fn put_page(&mut self, page: Page, tags: &TagList) -> Mem<()>
+        ensures ok { OnOk result (self.new ≡ with_tags self.old page.0 tags.now) }
+        ensures err { OnErr result (self.new ≡ self.old) }
+    {
+        if tags.is_empty() {
+            return Ok(());
+        }
+        let copies = tags.copy()?.into_vec();
+        self.nodes.open_all(page, copies.as_slice())?;
+        self.nodes.put_all(page, copies);
+        Ok(())
     }
 
     /// The least transaction but `own` that has a tag on this key of a page. It takes no memory.

@@ -1,15 +1,11 @@
-use Rattle.std.proofs.Common.{◌≡◌, ◌≤◌, ◌-◌, ◌+◌, ℕ, Bool, true, false, cond, length, refl, ap, sym, subst, ◌∙◌, arith}
-use Rattle.std.specs.Prelude.{filter, not, nat_eq}
-use Rattle.std.specs.declared.option.Option.{Option}
+use Rattle.std.proofs.Common.{◌≡◌, ◌-◌, ◌+◌, Bool, true, false, cond, refl, ap, sym, ◌∙◌, arith}
+use Rattle.std.specs.Prelude.{not}
 use Rattle.std.specs.declared.option.Option.TheVariants.{None, Some}
-use Rattle.std.proofs.lemmas.Bool.Decides.{nat_tests}
-use Rattle.slab.specs.Slab.{get}
-use Rattle.lock_table.specs.declared.node.Link.{Link}
 use Rattle.lock_table.specs.declared.node.Node.{Node}
 use Rattle.lock_table.specs.declared.node.Side.TheVariants as side
 use Rattle.lock_table.specs.Tags.{same_txn, is_on_key}
-use Rattle.lock_table.specs.Inside.{Entry, IsList, link_at, link_of_node, tag_at, tag_in, tag_of_node, head_in, other_in}
-use Rattle.lock_table.proofs.Seeks.{Seek, seek_begins, seek_ended, seek_spent, seek_has, seek_met}
+use Rattle.lock_table.specs.Inside.{link_at, link_of_node, tag_at, tag_in, tag_of_node, other_in}
+use Rattle.lock_table.proofs.Seeks.{seek_has, seek_met}
 use Rattle.lock_table.proofs.nodes.other_from.Goals as goal
 
 not_true : (b : Bool) → not b ≡ true → b ≡ false

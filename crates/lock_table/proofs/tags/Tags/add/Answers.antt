@@ -85,7 +85,7 @@ invariant_of-self-2 c =
     let none = lacks n.slab t (is_on c.args.page.0) i.0 (on_itself c.args.page.0) i.1.ascend i.1.here (ap (λ o. is_tag t (at_place n.slab o)) (sym at) ∙ (sym c.holds.ensures ∙ c.if-holds.false)) in
     let zs = filter (on c.args.page.0) i.0 in (
       upto t' i.0 ++ (c.open.new.self.slab.vacant_key, t') ∷ from t' i.0,
-      c.insert.ensures i.0 (c.open.ensures.same.stand i.0 i.1) (subst (λ (z : PageTag). c.place-place.result ≡ gap_of (upto z zs) (from z zs)) same place) (subst (λ (z : PageTag). Lacks z i.0) same none),
+      c.insert.ensures.stand i.0 (c.open.ensures.same.stand i.0 i.1) (subst (λ (z : PageTag). c.place-place.result ≡ gap_of (upto z zs) (from z zs)) same place) (subst (λ (z : PageTag). Lacks z i.0) same none),
     )
 
 pub returns-clause-ok : goal.returns-clause-ok

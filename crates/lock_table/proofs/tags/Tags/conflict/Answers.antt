@@ -1,4 +1,4 @@
-use Rattle.std.proofs.Common.{◌≡◌, ◌∙◌}
+use Rattle.std.proofs.Common.{◌∙◌}
 use Rattle.lock_table.proofs.Asked.{conflict_is}
 use Rattle.lock_table.proofs.tags.Tags.conflict.Goals as goal
 

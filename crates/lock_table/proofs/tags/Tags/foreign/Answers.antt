@@ -1,4 +1,4 @@
-use Rattle.std.proofs.Common.{◌≡◌, ◌∙◌}
+use Rattle.std.proofs.Common.{◌∙◌}
 use Rattle.lock_table.proofs.Asked.{foreign_is}
 use Rattle.lock_table.proofs.tags.Tags.foreign.Goals as goal
 
