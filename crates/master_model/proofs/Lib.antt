@@ -1,6 +1,7 @@
 mod Moves
 mod StepMoves
 mod GoesLemmas
+mod LackLemmas
 mod StepGoes
 mod FactLemmas
 mod PageLemmas

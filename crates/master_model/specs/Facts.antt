@@ -17,7 +17,8 @@ use Rattle.tm_base.specs.declared.message.Note.TheVariants as note
 use Rattle.vs_clock.specs.State as clock
 use Rattle.log_writer.specs.declared.logged.Logged.{Logged}
 use Rattle.page_model.specs.Pool.{OneEach}
-use Rattle.log_writer.specs.Log.{Log}
+use Rattle.log_writer.specs.Acks.{has}
+use Rattle.log_writer.specs.Log.{Log, numbered}
 use Rattle.lease_desk.specs.declared.lease.Lease.{Lease}
 use Rattle.lease_desk.specs.declared.lease.Lease.TheVariants as lease
 use Rattle.lease_desk.specs.declared.lease.PageLease.{PageLease}
@@ -75,6 +76,15 @@ AreGroups writer seq after last (g ∷ gs) =
 pub record LogFacts (start : ℕ) (log : Log) (scalar : ℕ) : Type 0 where
   pub groups : AreGroups log.writer.0 1 start scalar (groups_of log)
   pub most : length log.groups < 2 ^ 32
+
+-- A group that is the log's at its number, and that a log store hasn't acknowledged.
+pub record Lacks (groups : List Logged) (store : ℕ) (g : Group) : Type 0 where
+  pub logged : Logged
+  pub from_one : 1 ≤ g.seq
+  pub most : g.seq ≤ length groups
+  pub there : numbered groups g.seq ≡ Some logged
+  pub group : logged.group ≡ g
+  pub lacked : has logged.acks store ≡ false
 
 -- ---- the clock
 

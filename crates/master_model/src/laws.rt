@@ -6,6 +6,8 @@
 //! at which the master's writer began, as the lock manager has it. What a message brings (`Brings`) is what each
 //! message has that the format of messages can spell.
 ghost use Rattle.std.specs.Prelude.{◌≡◌, ℕ, List, Option};
+ghost use Rattle.std.specs.List.{AllByRecursion};
+ghost use Rattle.log_writer.specs.Log.{resent, unacked};
 ghost use Rattle.tm_base.specs.declared.command.Command.{Command};
 ghost use Rattle.tm_base.specs.declared.command.Command.TheVariants as command;
 ghost use Rattle.tm_base.specs.declared.message.Message.{Message};
@@ -14,7 +16,7 @@ ghost use Rattle.master_model.specs.State.{State, Work};
 ghost use Rattle.master_model.specs.Reads.{get};
 ghost use Rattle.master_model.specs.Replies.{PathIsHere, QuietOrAsking, Reads, SaysEndIn};
 ghost use Rattle.master_model.specs.Step.{on_command, start, step, tick};
-ghost use Rattle.master_model.specs.Facts.{Brings, Facts, JoinsAfter};
+ghost use Rattle.master_model.specs.Facts.{Brings, Facts, JoinsAfter, Lacks, WorkFacts};
 ghost use Rattle.master_model.specs.Goes.{Goes};
 ghost use Rattle.master_model.specs.Told.{Sent};
 
@@ -39,6 +41,15 @@ pub fn a_message_keeps_the_facts()
 /// one that tells twice what was heard once and leaves out what was heard since.
 pub fn a_command_keeps_the_facts()
     ensures { (begun : ℕ) (s : State) (session : ℕ) (asked : Command) → Facts begun s → Facts begun (on_command s session asked).0 }
+{}
+
+/// What a log store lacks is the log's: each group that it hasn't acknowledged, and so each one that is sent to it
+/// again, has a number from 1 to the log's length, is the group of that number in the log, and has no mark of that
+/// store. Refused are a list that counts from the first group that is lacked, and one that has a group which the store
+/// has acknowledged.
+pub fn what_is_lacked_is_of_the_log()
+    ensures unacked { (begun : ℕ) (w : Work) (store : ℕ) → WorkFacts begun w → AllByRecursion (Lacks w.log.groups store) (unacked w.log.groups store) }
+    ensures resent { (begun : ℕ) (w : Work) (store : ℕ) → WorkFacts begun w → AllByRecursion (Lacks w.log.groups store) (resent w.log.groups store) }
 {}
 
 /// How a message moves the state on: the log grows at its end alone and loses no acknowledgement, so what is durable
