@@ -173,7 +173,7 @@ front_moves start = record {
   change = λ w r stamp page is h. h;
   grant = λ w page epoch stamp tags vector new brought fits h.
       front_vector start w.log (clock.heard_scalar w.clock stamp.0) vector brought (front_scalar start w.log w.clock stamp.0 fits h);
-  image = λ w image held. image_front start w _;
+  image = λ w image held same. image_front start w _;
   fresh_page = λ w page is h. h;
   fresh_none = λ w h. h;
   recall = λ w page epoch h. h;
@@ -184,10 +184,10 @@ front_moves start = record {
   mark = λ w t is known h. h;
   name = λ w t h. h;
   begin = λ w session is h. h;
-  tag = λ w page key number h. h;
-  put = λ w p leaf path fresh h. h;
-  session = λ w session own h. h;
-  free = λ w session h. h;
+  tag = λ w session page key own is active held h. h;
+  put = λ w p leaf path fresh count is some h. h;
+  session = λ w session old own is same goes h. h;
+  free = λ w session own committed seq is at durable h. h;
 }
 
 -- A writer that has just joined.

@@ -1,3 +1,5 @@
+mod AwaitedLemmas
+mod LoggedLemmas
 mod Moves
 mod StepMoves
 mod GoesLemmas
@@ -6,6 +8,7 @@ mod StepGoes
 mod FactLemmas
 mod PageLemmas
 mod LeaseLemmas
+mod SessionLemmas
 mod StepFacts
 mod Answers
 mod ToldLemmas

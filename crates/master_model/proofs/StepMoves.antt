@@ -82,6 +82,16 @@ granted_held m page epoch stamp is = ap (λ (b : Bool). is_held (lease_of (set_i
     set_here : (m : Leases) (page : ℕ) (new : PageLease) → is_held (lease_of (fin.insert m page new) page).state ≡ is_held new.state
     set_here m page new = grind (arith, nat_tests, gets)
 
+-- Its stamp is the grant's.
+granted_stamp : (m : Leases) (page epoch : ℕ) (stamp : Stamp) → nat_lt (lease_of m page).epoch epoch ≡ true → stamp.0 ≡ 0 → 0 ≡ (lease_of (granted m page epoch stamp) page).stamp.0
+granted_stamp m page epoch stamp is zero_is = sym (ap (λ (b : Bool). (lease_of (set_if m page l b) page).stamp.0) is ∙ (set_here m page l ∙ zero_is))
+  where
+    l : PageLease
+    l = record { epoch = epoch; state = lease.Held; stamp = stamp }
+
+    set_here : (m : Leases) (page : ℕ) (new : PageLease) → (lease_of (fin.insert m page new) page).stamp.0 ≡ new.stamp.0
+    set_here m page new = grind (arith, nat_tests, gets)
+
 pub fresh_rises : (a : Bool) (epoch : ℕ) → a && nat_eq epoch 0 ≡ true → nat_lt epoch 1 ≡ true
 fresh_rises true epoch is = grind (arith, nat_tests)
 fresh_rises false epoch is = absurd (cc is)
@@ -109,20 +119,21 @@ module _ {R : Work → Work → Type 0} (c : Closed R) where
       taken : Work
       taken = leases.takes_page w page epoch stamp tags vector
 
-      with_first : (b : Bool) → nat_lt (lease_of w.leases page.0).epoch epoch ≡ true → R taken (leases.gets_image taken page b).0
-      with_first true is = c.image taken (initial page) (granted_held w.leases page.0 epoch stamp is)
-      with_first false is = c.none taken
+      with_first : (b : Bool) → nat_eq stamp.0 0 ≡ b → nat_lt (lease_of w.leases page.0).epoch epoch ≡ true → R taken (leases.gets_image taken page b).0
+      with_first true first is = c.image taken (initial page) (granted_held w.leases page.0 epoch stamp is) (granted_stamp w.leases page.0 epoch stamp is (grind (arith, nat_tests)))
+      with_first false first is = c.none taken
 
       by : (b : Bool) → nat_lt (lease_of w.leases page.0).epoch epoch ≡ b → R w (leases.on_grant_if w page epoch stamp tags vector b).0
       by false is = c.none w
-      by true is = c.both w taken _ (c.grant w page epoch stamp tags vector is brought fits) (with_first (nat_eq stamp.0 0) is)
+      by true is = c.both w taken _ (c.grant w page epoch stamp tags vector is brought fits) (with_first (nat_eq stamp.0 0) refl is)
 
   fresh_moves : (w : Work) (nth : ℕ) (page : Option Page) → R w (leases.on_fresh w nth page).0
   fresh_moves w nth page = by (nat_eq nth (w.fresh + 1))
     where
       given : (p : Page) (b : Bool) → nat_lt 1024 p.0 && nat_eq (lease_of w.leases p.0).epoch 0 ≡ b → R w (leases.with_fresh_if w p b)
       given p false is = c.none w
-      given p true is = c.both w (fresh_taken w p) _ (c.fresh_page w p is) (c.image (fresh_taken w p) (blank_page p) (granted_held w.leases p.0 1 (record { 0 = 0 }) (fresh_rises (nat_lt 1024 p.0) (lease_of w.leases p.0).epoch is)))
+      given p true is = c.both w (fresh_taken w p) _ (c.fresh_page w p is) (c.image (fresh_taken w p) (blank_page p) (granted_held w.leases p.0 1 (record { 0 = 0 }) (fresh_rises (nat_lt 1024 p.0) (lease_of w.leases p.0).epoch is))
+          (granted_stamp w.leases p.0 1 (record { 0 = 0 }) (fresh_rises (nat_lt 1024 p.0) (lease_of w.leases p.0).epoch is) refl))
 
       any : (o : Option Page) → R w (leases.with_fresh w o)
       any None = c.fresh_none w
@@ -135,14 +146,14 @@ module _ {R : Work → Work → Type 0} (c : Closed R) where
   page_moves : (w : Work) (image : Image) → R w (leases.on_page w image).0
   page_moves w image = by (image_of image.page.0 w.pool.images)
     where
-      new : (b d : Bool) → is_held (lease_of w.leases image.page.0).state ≡ b → R w (leases.on_page_if w image (b && d)).0
-      new true true is = c.image w image is
-      new true false is = c.none w
-      new false d is = c.none w
+      new : (b d : Bool) → is_held (lease_of w.leases image.page.0).state ≡ b → nat_eq image.stamp.0 (lease_of w.leases image.page.0).stamp.0 ≡ d → R w (leases.on_page_if w image (b && d)).0
+      new true true is same = c.image w image is (grind (arith, nat_tests))
+      new true false is same = c.none w
+      new false d is same = c.none w
 
       by : (o : Option Image) → R w (leases.on_page_if w image (leases.is_wanted w image o)).0
       by (Some old) = c.none w
-      by None = new (is_held (lease_of w.leases image.page.0).state) (nat_eq image.stamp.0 (lease_of w.leases image.page.0).stamp.0) refl
+      by None = new (is_held (lease_of w.leases image.page.0).state) (nat_eq image.stamp.0 (lease_of w.leases image.page.0).stamp.0) refl refl
 
   recall_moves : (w : Work) (page epoch : ℕ) → R w (leases.on_recall w page epoch).0
   recall_moves w page epoch = by (nat_eq (lease_of w.leases page).epoch epoch)

@@ -36,7 +36,8 @@ use Rattle.master_model.specs.Step.{on_command}
 use Rattle.master_model.specs.Facts.{groups_of}
 use Rattle.master_model.specs.Goes.{LogGoes}
 use Rattle.master_model.specs.Told.{MessagesAre, Sent, SentBy}
-use Rattle.master_model.proofs.Moves.{HasRoom, changes_front, logs_moves, room_left}
+use Rattle.master_model.proofs.LoggedLemmas.{changes_front}
+use Rattle.master_model.proofs.Moves.{HasRoom, logs_moves, room_left}
 use Rattle.master_model.proofs.GoesLemmas.{groups_pushed, log_moves}
 use Rattle.master_model.proofs.Answers.{Answered, begin_says, get_says, put_says, commit_says, abort_says, undo_says}
 

@@ -1,5 +1,5 @@
--- What holds of a master in every state: of its log, its clock, its pages and its leases.
-use Rattle.std.specs.Prelude.{◌≡◌, ◌<◌, ◌≤◌, ℕ, ◌+◌, ◌-◌, ◌^◌, Bool, true, false, List, [], ◌∷◌, map, length, max, is_some}
+-- What holds of a master in every state: of its log, its clock, its pages, its leases and its sessions.
+use Rattle.std.specs.Prelude.{◌≡◌, ◌<◌, ◌≤◌, ◌⊎◌, ℕ, ◌+◌, ◌-◌, ◌^◌, Bool, true, false, List, [], ◌∷◌, map, length, max, is_some, slice_get}
 use Rattle.std.specs.List.{AllByRecursion}
 use Rattle.std.specs.Ordering.{nat_cmp}
 use Rattle.std.specs.FinMap.{FinMap}
@@ -9,6 +9,7 @@ use Rattle.std.specs.declared.option.Option.TheVariants.{None, Some}
 use Rattle.tm_data.specs.declared.image.Image.{Image}
 use Rattle.tm_data.specs.declared.log.Group.{Group}
 use Rattle.tm_data.specs.declared.transaction.Page.{Page}
+use Rattle.tm_data.specs.declared.transaction.Txn.{Txn}
 use Rattle.tm_data.specs.declared.vector.VectorEntry.{VectorEntry}
 use Rattle.tm_data.specs.Vectors.{IsVector, greatest, stamp_of}
 use Rattle.tm_base.specs.declared.message.Message.{Message}
@@ -18,12 +19,16 @@ use Rattle.vs_clock.specs.State as clock
 use Rattle.log_writer.specs.declared.logged.Logged.{Logged}
 use Rattle.page_model.specs.Pool.{OneEach}
 use Rattle.log_writer.specs.Acks.{has}
-use Rattle.log_writer.specs.Log.{Log, numbered}
+use Rattle.log_writer.specs.Log.{Log, durable_seq, numbered}
 use Rattle.lease_desk.specs.declared.lease.Lease.{Lease}
 use Rattle.lease_desk.specs.declared.lease.Lease.TheVariants as lease
 use Rattle.lease_desk.specs.declared.lease.PageLease.{PageLease}
 use Rattle.lease_desk.specs.Desk.{Leases, is_releasing, lease_of}
 use Rattle.master_model.specs.declared.left.Left.{Left}
+use Rattle.master_model.specs.declared.session.Own.{Own}
+use Rattle.master_model.specs.declared.session.Progress.{Progress}
+use Rattle.master_model.specs.declared.session.Progress.TheVariants.{Active, Undoing, Ended}
+use Rattle.master_model.specs.Ends.{end_of}
 use Rattle.master_model.specs.State.{Work, Life, State}
 
 -- ---- what a message brings
@@ -137,6 +142,54 @@ pub record LeaseFact (at : PageLease) (kept : Option Left) : Type 0 where
 abbrev pub LeaseFacts : Leases → FinMap nat_cmp Left → Type 0
 LeaseFacts leases left = (page : ℕ) → LeaseFact (lease_of leases page) (fin.get left page)
 
+-- ---- sessions
+
+abbrev pub Sessions : Type 0
+Sessions = FinMap nat_cmp Own
+
+-- An own transaction.
+abbrev pub own_txn : Log → ℕ → Txn
+own_txn log number = record { writer = log.writer; number = number }
+
+-- The group of a number is a transaction's end with an outcome, and says nothing else.
+pub record HasEndAt (groups : List Group) (seq : ℕ) (t : Txn) (committed : Bool) : Type 0 where
+  pub group : Group
+  pub from_one : 1 ≤ seq
+  pub there : slice_get groups (seq - 1) ≡ Some group
+  pub says : group.records ≡ end_of t committed
+
+-- A transaction that has ended has its end in the log, with its outcome, at the number that is kept of it.
+abbrev pub Fits : Log → ℕ → Progress → Type 0
+Fits log number Active = Unit {0}
+Fits log number (Undoing left) = Unit {0}
+Fits log number (Ended committed seq) = HasEndAt (groups_of log) seq (own_txn log number) committed
+
+-- The number of a session's transaction is one that was begun.
+pub record SessionFact (log : Log) (begun : ℕ) (own : Own) : Type 0 where
+  pub from_one : 1 ≤ own.number
+  pub most : own.number ≤ begun
+  pub fits : Fits log own.number own.progress
+
+-- The transaction's end, with one outcome or the other, is in the log, and durable.
+pub record EndIsDurable (log : Log) (number : ℕ) : Type 0 where
+  pub committed : Bool
+  pub seq : ℕ
+  pub at : HasEndAt (groups_of log) seq (own_txn log number) committed
+  pub is_durable : seq ≤ durable_seq log.groups
+
+pub record InSession (sessions : Sessions) (number : ℕ) : Type 0 where
+  pub session : ℕ
+  pub own : Own
+  pub there : fin.get sessions session ≡ Some own
+  pub same : own.number ≡ number
+
+pub record SessionFacts (log : Log) (begun : ℕ) (sessions : Sessions) : Type 0 where
+  pub each : (session : ℕ) (own : Own) → fin.get sessions session ≡ Some own → SessionFact log begun own
+  -- no two sessions have one transaction
+  pub apart : (a b : ℕ) (x y : Own) → fin.get sessions a ≡ Some x → fin.get sessions b ≡ Some y → x.number ≡ y.number → a ≡ b
+  -- a transaction that was begun is a session's, or its end is durable
+  pub known : (number : ℕ) → 1 ≤ number → number ≤ begun → InSession sessions number ⊎ EndIsDurable log number
+
 -- ---- a master
 
 pub record WorkFacts (start : ℕ) (w : Work) : Type 0 where
@@ -144,6 +197,7 @@ pub record WorkFacts (start : ℕ) (w : Work) : Type 0 where
   pub of_clock : ClockFacts w.log w.clock
   pub of_pages : PageFacts w.leases w.pool.images w.stock
   pub of_leases : LeaseFacts w.leases w.left
+  pub of_sessions : SessionFacts w.log w.begun w.sessions
 
 -- Of a master that has joined, with a writer that began at a stamp.
 abbrev pub LifeFacts : ℕ → Option Life → Type 0
