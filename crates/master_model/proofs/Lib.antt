@@ -17,3 +17,4 @@ mod NoteTold
 mod ReplyLemmas
 mod QuietLemmas
 mod EndLemmas
+mod EndedLemmas

@@ -49,7 +49,7 @@ fits_stay a b number (Undoing left) goes f = tt
 fits_stay a b number (Ended committed seq) goes f = end_stays a b seq number committed goes f
 
 durable_stays : (a b : Log) (number : ℕ) → LogGoes a b → EndIsDurable a number → EndIsDurable b number
-durable_stays a b number goes e = record { committed = e.committed; seq = e.seq; at = end_stays a b e.seq number e.committed goes e.at; is_durable = omega (arith, e.is_durable, goes.durable) }
+durable_stays a b number goes e = (e.0, record { seq = e.1.seq; at = end_stays a b e.1.seq number e.0 goes e.1.at; is_durable = omega (arith, e.1.is_durable, goes.durable) })
 
 log_goes : (a b : Log) (begun : ℕ) (sessions : Sessions) → LogGoes a b → SessionFacts a begun sessions → SessionFacts b begun sessions
 log_goes a b begun sessions goes f = record {
@@ -184,7 +184,7 @@ frees log begun session m own committed seq is at durable f = record {
         one false e = sym (gone_other m session other e) ∙ k
 
     ends : EndIsDurable log own.number
-    ends = record { committed = committed; seq = seq; at = subst (Fits log own.number) at (f.each session own is).fits; is_durable = durable }
+    ends = (committed, record { seq = seq; at = subst (Fits log own.number) at (f.each session own is).fits; is_durable = durable })
 
     by : (number : ℕ) → InSession m number ⊎ EndIsDurable log number → InSession (fin.remove m session) number ⊎ EndIsDurable log number
     by number (inr e) = inr e

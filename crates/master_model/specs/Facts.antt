@@ -170,12 +170,15 @@ pub record SessionFact (log : Log) (begun : ℕ) (own : Own) : Type 0 where
   pub most : own.number ≤ begun
   pub fits : Fits log own.number own.progress
 
--- The transaction's end, with one outcome or the other, is in the log, and durable.
-pub record EndIsDurable (log : Log) (number : ℕ) : Type 0 where
-  pub committed : Bool
+-- A transaction's end with an outcome is in the log, and durable.
+pub record DurableEnd (log : Log) (t : Txn) (committed : Bool) : Type 0 where
   pub seq : ℕ
-  pub at : HasEndAt (groups_of log) seq (own_txn log number) committed
+  pub at : HasEndAt (groups_of log) seq t committed
   pub is_durable : seq ≤ durable_seq log.groups
+
+-- That of an own transaction is, with one outcome or the other.
+abbrev pub EndIsDurable : Log → ℕ → Type 0
+EndIsDurable log number = (committed : Bool) × DurableEnd log (own_txn log number) committed
 
 pub record InSession (sessions : Sessions) (number : ℕ) : Type 0 where
   pub session : ℕ

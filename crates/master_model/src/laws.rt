@@ -5,7 +5,7 @@
 //! one step: what holds before it and after it (`Facts`), and how the state goes on (`Goes`). `begun` is the stamp
 //! at which the master's writer began, as the lock manager has it. What a message brings (`Brings`) is what each
 //! message has that the format of messages can spell.
-ghost use Rattle.std.specs.Prelude.{◌≡◌, ℕ, List, Option};
+ghost use Rattle.std.specs.Prelude.{◌≡◌, ℕ, true, List, Option};
 ghost use Rattle.std.specs.List.{AllByRecursion};
 ghost use Rattle.log_writer.specs.Log.{resent, unacked};
 ghost use Rattle.tm_base.specs.declared.command.Command.{Command};
@@ -13,10 +13,11 @@ ghost use Rattle.tm_base.specs.declared.command.Command.TheVariants as command;
 ghost use Rattle.tm_base.specs.declared.message.Message.{Message};
 ghost use Rattle.tm_base.specs.declared.reply.Reply.TheVariants as reply;
 ghost use Rattle.master_model.specs.State.{State, Work};
+ghost use Rattle.master_model.specs.Fates.{has_ended};
 ghost use Rattle.master_model.specs.Reads.{get};
-ghost use Rattle.master_model.specs.Replies.{PathIsHere, QuietOrAsking, Reads, SaysEndIn};
+ghost use Rattle.master_model.specs.Replies.{PathIsHere, QuietOrAsking, Reads, SaysDurableIn, SaysEndIn};
 ghost use Rattle.master_model.specs.Step.{on_command, start, step, tick};
-ghost use Rattle.master_model.specs.Facts.{Brings, Facts, JoinsAfter, Lacks, WorkFacts};
+ghost use Rattle.master_model.specs.Facts.{Brings, EndIsDurable, Facts, JoinsAfter, Lacks, WorkFacts};
 ghost use Rattle.master_model.specs.Goes.{Goes};
 ghost use Rattle.master_model.specs.Told.{Sent};
 
@@ -31,14 +32,17 @@ pub fn facts_hold_at_the_start()
 /// own stamp; what was told in all groups, with what is still to be told, is all that was heard; the scalar is at
 /// least at every stamp that was heard. Each fresh page and each image is of a page that is held or recalled, and no
 /// page has two images; of exactly the pages that are being given back there is what was told, with the epoch and the
-/// stamp of the lease. Refused are a Beat that has the scalar itself as its stamp, a vector that is heard with its
+/// stamp of the lease. Each session's transaction was begun, no two sessions have one, and one that has ended has its
+/// end in the log, with its outcome, at the number that is kept of it; a transaction that was begun is a session's, or
+/// its end is durable. Refused are a Beat that has the scalar itself as its stamp, a vector that is heard with its
 /// own entry, and a page that is given back and keeps its image or its place among the fresh ones.
 pub fn a_message_keeps_the_facts()
     ensures { (begun : ℕ) (s : State) (m : Message) → Facts begun s → Brings m → JoinsAfter begun s.life m.stamp.0 → Facts begun (step s m).0 }
 {}
 
-/// And after each command. Refused is a command whose second group has the number or the stamp of its first, and
-/// one that tells twice what was heard once and leaves out what was heard since.
+/// And after each command. Refused is a command whose second group has the number or the stamp of its first, one
+/// that tells twice what was heard once and leaves out what was heard since, an abort that keeps the number of its
+/// undone row's group as that of its end, and a begin that gives out a number once more.
 pub fn a_command_keeps_the_facts()
     ensures { (begun : ℕ) (s : State) (session : ℕ) (asked : Command) → Facts begun s → Facts begun (on_command s session asked).0 }
 {}
@@ -119,9 +123,18 @@ pub fn a_path_that_is_here_is_quiet()
 {}
 
 /// Committed and Aborted are answered to a session of its own transaction alone, which has ended with that outcome,
-/// at the number of a group that is durable here. So a session that never gets there, as one whose master is lost,
-/// is answered neither. Refused are a commit that answers as soon as its end is logged, and an abort that answers
-/// Aborted where the transaction was committed.
+/// at the number of a group that is durable here; and that group is this end, and says nothing else. So a session that
+/// never gets there, as one whose master is lost, is answered neither. Refused are a commit that answers as soon as its
+/// end is logged, an abort that answers Aborted where the transaction was committed, and a commit that waits for a
+/// group before its end.
 pub fn ends_are_durable()
-    ensures { (s : State) (session : ℕ) (asked : Command) → SaysEndIn s.life session (on_command s session asked).1 }
+    ensures of_session { (s : State) (session : ℕ) (asked : Command) → SaysEndIn s.life session (on_command s session asked).1 }
+    ensures in_log { (begun : ℕ) (s : State) (session : ℕ) (asked : Command) → Facts begun s → SaysDurableIn s.life (on_command s session asked).1 }
+{}
+
+/// An own transaction that counts as ended has its end in the log, with one outcome or the other, and durable: so that
+/// end binds whoever reads a row of it, or is told of its fate. Refused is a master that counts a transaction as ended
+/// once its end is logged, and one that frees a session before.
+pub fn what_has_ended_is_durable()
+    ensures { (begun : ℕ) (w : Work) (number : ℕ) → WorkFacts begun w → has_ended w number ≡ true → EndIsDurable w.log number }
 {}
