@@ -20,6 +20,7 @@ use Rattle.master_model.specs.Step.{on_command}
 use Rattle.master_model.specs.Facts.{DurableEnd, EndIsDurable, Facts, Fits, InSession, LifeFacts, SessionFacts, Sessions, WorkFacts, own_txn}
 use Rattle.master_model.specs.Replies.{HasEnd, SaysDurable, SaysDurableIn, SaysEnd, SaysEndIn}
 use Rattle.master_model.proofs.EndLemmas.{ends_are_durable}
+use Rattle.master_model.proofs.OpenLemmas.{session_open}
 
 -- ---- answers
 
@@ -46,34 +47,6 @@ answered_ends begun s session asked f = by s.life f (ends_are_durable s session 
     by (Some l) f h = says_durable l.work.log l.work.begun l.work.sessions session (on_command s session asked).1 f.of_sessions h
 
 -- ---- what has ended
-
-in_entries : (test : Own → Bool) (session : ℕ) (own : Own) (es : List (ℕ × Own)) → find nat_cmp session es ≡ Some own → test own ≡ true → list_any (λ (e : ℕ × Own). test e.1) es ≡ true
-in_entries test session own [] is passes = absurd (cc is)
-in_entries test session own (e ∷ es) is passes = by (eq_by_cmp nat_cmp session e.0) is (λ k. in_entries test session own es k passes)
-  where
-    or_right : (a b : Bool) → b ≡ true → (a || b) ≡ true
-    or_right true b k = refl
-    or_right false b k = k
-
-    or_left : (a b : Bool) → a ≡ true → (a || b) ≡ true
-    or_left true b k = refl
-    or_left false b k = absurd (cc k)
-
-    by : (b : Bool) → cond b (Some e.1) (find nat_cmp session es) ≡ Some own → (find nat_cmp session es ≡ Some own → list_any (λ (e : ℕ × Own). test e.1) es ≡ true) → list_any (λ (e : ℕ × Own). test e.1) (e ∷ es) ≡ true
-    by true k rest = let one : e.1 ≡ own = cc k in or_left (test e.1) _ (ap test one ∙ passes)
-    by false k rest = or_right (test e.1) (list_any (λ (e : ℕ × Own). test e.1) es) (rest k)
-
--- A session's transaction that isn't over is open.
-pub session_open : (w : Work) (session : ℕ) (own : Own) → fin.get w.sessions session ≡ Some own → is_over (durable w) own.progress ≡ false → is_open w own.number ≡ true
-session_open w session own is not_over = in_entries (is_open_in (durable w) own.number) session own (fin.entries w.sessions) (sym (fin.get-entries w.sessions session) ∙ is) (both (nat_eq own.number own.number) (is_over (durable w) own.progress) same not_over)
-  where
-    same : nat_eq own.number own.number ≡ true
-    same = grind (arith, nat_tests)
-
-    both : (a b : Bool) → a ≡ true → b ≡ false → (a && not b) ≡ true
-    both true false k l = refl
-    both true true k l = absurd (cc l)
-    both false b k l = absurd (cc k)
 
 over_ended : (log : Log) (number : ℕ) (p : Progress) → is_over (durable_seq log.groups) p ≡ true → Fits log number p → EndIsDurable log number
 over_ended log number Active is f = absurd (cc is)

@@ -11,7 +11,7 @@ use Rattle.log_writer.specs.Log.{numbered, resent, unacked}
 use Rattle.master_model.specs.State.{Work}
 use Rattle.master_model.specs.Facts.{AreGroups, Lacks, WorkFacts, groups_in}
 
-all_taken : {X : Type 0} (P : X → Type 0) (n : ℕ) (xs : List X) → AllByRecursion P xs → AllByRecursion P (take n xs)
+pub all_taken : {X : Type 0} (P : X → Type 0) (n : ℕ) (xs : List X) → AllByRecursion P xs → AllByRecursion P (take n xs)
 all_taken P zero xs h = tt
 all_taken P (suc n) [] h = tt
 all_taken P (suc n) (x ∷ xs) h = (h.0, all_taken P n xs h.1)

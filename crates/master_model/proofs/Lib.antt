@@ -17,4 +17,7 @@ mod NoteTold
 mod ReplyLemmas
 mod QuietLemmas
 mod EndLemmas
+mod OpenLemmas
+mod TagSetLemmas
+mod TagLemmas
 mod EndedLemmas

@@ -109,6 +109,14 @@ new_lacked p (x ∷ front) last is = by (p x) (new_lacked p front last is)
     by true h = omega (arith, h)
     by false h = omega arith
 
+pushed_same : (p : Logged → Bool) (ls : List Logged) (l : Logged) → p l ≡ false → prefix_len p (ls ++ l ∷ []) ≡ prefix_len p ls
+pushed_same p [] l is = ap (λ (b : Bool). cond b (1 + 0) 0) is
+pushed_same p (x ∷ ls) l is = ap (λ (n : ℕ). cond (p x) (1 + n) 0) (pushed_same p ls l is)
+
+-- One more group leaves what is durable.
+pub durable_appended : (log : Log) (g : Group) → durable_seq (appended log g).groups ≡ durable_seq log.groups
+durable_appended log g = pushed_same (λ l. has_all l.acks) log.groups (record { group = g; acks = no_acks }) refl
+
 -- The end is there, and isn't durable yet.
 pub end_at : (w : Work) (log : Log) (number : ℕ) (committed : Bool) → EndsWith w log (end_of (own_txn w.log number) committed)
     → HasEndAt (groups_of log) (length log.groups) (own_txn log number) committed × (durable_seq log.groups < length log.groups)

@@ -53,7 +53,7 @@ has_recalled m page epoch = by (fin.get m page)
     by None = λ q h. h
     by (Some l) = has_set m page (record l { state = lease.Recalled }) (is_held l.state && nat_eq l.epoch epoch) (λ b h. refl)
 
-held_had : (s : Lease) → is_held s ≡ true → is_had s ≡ true
+pub held_had : (s : Lease) → is_held s ≡ true → is_had s ≡ true
 held_had lease.Held h = refl
 held_had lease.None h = absurd (cc h)
 held_had lease.Recalled h = absurd (cc h)

@@ -64,22 +64,22 @@ log_goes a b begun sessions goes f = record {
 
 -- ---- a session changes
 
-put_here : (m : Sessions) (session : ℕ) (own : Own) → fin.get (fin.insert m session own) session ≡ Some own
+pub put_here : (m : Sessions) (session : ℕ) (own : Own) → fin.get (fin.insert m session own) session ≡ Some own
 put_here m session own = grind (arith, nat_tests, gets)
 
-put_other : (m : Sessions) (session other : ℕ) (own : Own) → nat_eq other session ≡ false → fin.get (fin.insert m session own) other ≡ fin.get m other
+pub put_other : (m : Sessions) (session other : ℕ) (own : Own) → nat_eq other session ≡ false → fin.get (fin.insert m session own) other ≡ fin.get m other
 put_other m session other own not = grind (arith, nat_tests, gets)
 
 gone_here : (m : Sessions) (session : ℕ) → fin.get (fin.remove m session) session ≡ None
 gone_here m session = grind (arith, nat_tests, gets)
 
-gone_other : (m : Sessions) (session other : ℕ) → nat_eq other session ≡ false → fin.get (fin.remove m session) other ≡ fin.get m other
+pub gone_other : (m : Sessions) (session other : ℕ) → nat_eq other session ≡ false → fin.get (fin.remove m session) other ≡ fin.get m other
 gone_other m session other not = grind (arith, nat_tests, gets)
 
-same_at : (a b : ℕ) → nat_eq a b ≡ true → a ≡ b
+pub same_at : (a b : ℕ) → nat_eq a b ≡ true → a ≡ b
 same_at a b is = grind (arith, nat_tests)
 
-some_is : (x y : Own) → Some x ≡ Some y → x ≡ y
+pub some_is : (x y : Own) → Some x ≡ Some y → x ≡ y
 some_is x y is = cc is
 
 -- What is of a session after it was put, by whether it is that one.

@@ -1,9 +1,10 @@
--- What holds of a master in every state: of its log, its clock, its pages, its leases and its sessions.
+-- What holds of a master in every state: of its log, its clock, its pages, its leases, its sessions and its tags.
 use Rattle.std.specs.Prelude.{◌≡◌, ◌<◌, ◌≤◌, ◌⊎◌, ℕ, ◌+◌, ◌-◌, ◌^◌, Bool, true, false, List, [], ◌∷◌, map, length, max, is_some, slice_get}
 use Rattle.std.specs.List.{AllByRecursion}
 use Rattle.std.specs.Ordering.{nat_cmp}
 use Rattle.std.specs.FinMap.{FinMap}
 use Rattle.std.specs.FinMap as fin
+use Rattle.std.specs.FinSet as sets
 use Rattle.std.specs.declared.option.Option.{Option}
 use Rattle.std.specs.declared.option.Option.TheVariants.{None, Some}
 use Rattle.tm_data.specs.declared.image.Image.{Image}
@@ -28,6 +29,8 @@ use Rattle.master_model.specs.declared.left.Left.{Left}
 use Rattle.master_model.specs.declared.session.Own.{Own}
 use Rattle.master_model.specs.declared.session.Progress.{Progress}
 use Rattle.master_model.specs.declared.session.Progress.TheVariants.{Active, Undoing, Ended}
+use Rattle.master_model.specs.Tags.{PageTag}
+use Rattle.master_model.specs.Fates.{is_ended}
 use Rattle.master_model.specs.Ends.{end_of}
 use Rattle.master_model.specs.State.{Work, Life, State}
 
@@ -193,6 +196,13 @@ pub record SessionFacts (log : Log) (begun : ℕ) (sessions : Sessions) : Type 0
   -- a transaction that was begun is a session's, or its end is durable
   pub known : (number : ℕ) → 1 ≤ number → number ≤ begun → InSession sessions number ⊎ EndIsDurable log number
 
+-- ---- shared locks
+
+-- Each tag stands on a page that is held or recalled, and is of a transaction that isn't known to have ended.
+pub record TagFacts (w : Work) : Type 0 where
+  pub had : (t : PageTag) → sets.contains w.tags t ≡ true → Has w.leases t.page
+  pub binds : (t : PageTag) → sets.contains w.tags t ≡ true → is_ended w t.txn ≡ false
+
 -- ---- a master
 
 pub record WorkFacts (start : ℕ) (w : Work) : Type 0 where
@@ -201,6 +211,7 @@ pub record WorkFacts (start : ℕ) (w : Work) : Type 0 where
   pub of_pages : PageFacts w.leases w.pool.images w.stock
   pub of_leases : LeaseFacts w.leases w.left
   pub of_sessions : SessionFacts w.log w.begun w.sessions
+  pub of_tags : TagFacts w
 
 -- Of a master that has joined, with a writer that began at a stamp.
 abbrev pub LifeFacts : ℕ → Option Life → Type 0
