@@ -1,6 +1,6 @@
 -- What the commands answer, leaf by leaf. A relation between what a writer has and an answer that holds of each leaf
 -- holds of every answer.
-use Rattle.std.proofs.Common.{◌≡◌, ◌+◌, ◌-◌, ◌^◌, ℕ, Bool, true, false, List, [], ◌∷◌, ◌++◌, Option, Some, None, Result, Ok, Err, refl, sym, subst, arith, ◌≤◌, ◌∙◌, cond, ap}
+use Rattle.std.proofs.Common.{◌≡◌, ◌+◌, ◌-◌, ◌^◌, ℕ, Bool, true, false, List, [], ◌∷◌, ◌++◌, Option, Some, None, Result, Ok, Err, refl, sym, subst, arith, ◌≤◌}
 use Rattle.std.specs.Prelude.{nat_lt, nat_le, length, take}
 use Rattle.std.specs.FinMap as fin
 use Rattle.std.specs.FinSet as sets
@@ -22,12 +22,6 @@ use Rattle.master_model.specs.declared.session.Own.{Own}
 use Rattle.master_model.specs.declared.session.Progress.{Progress}
 use Rattle.master_model.specs.declared.session.Progress.TheVariants.{Active, Undoing, Ended}
 use Rattle.master_model.specs.Tags.{same_txn, takes, with_tag, others_on, foreign_on}
-use Rattle.log_writer.specs.declared.acks.Acks.{Acks}
-use Rattle.log_writer.specs.declared.logged.Logged.{Logged}
-use Rattle.log_writer.specs.Acks.{has_all, least_lacking}
-use Rattle.log_writer.specs.Log.{durable_seq, lacking, lacking_of}
-use Rattle.std.specs.Prelude.{suc, slice_get, ◌&&◌, nat_eq}
-use Rattle.std.specs.List.{prefix_len}
 use Rattle.master_model.specs.State.{Work, Answer, answers, durable, says, to_locks}
 use Rattle.master_model.specs.Fates as fates
 use Rattle.master_model.specs.Fates.{Standing, Free, Locks, Unknown, named, unless, or_later}

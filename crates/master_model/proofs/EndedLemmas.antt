@@ -1,23 +1,18 @@
 -- The ends that are answered, and those that are told of, are in the log, and durable.
-use Rattle.std.proofs.Common.{◌≡◌, ◌≤◌, ◌⊎◌, ◌+◌, ℕ, Bool, true, false, List, [], ◌∷◌, Option, Some, None, refl, ap, sym, subst, ◌∙◌, cond, arith, inl, inr}
-use Rattle.std.specs.Prelude.{nat_eq, nat_le, not, ◌&&◌, ◌||◌}
-use Rattle.std.specs.List.{list_any}
-use Rattle.std.specs.Ordering.{nat_cmp, eq_by_cmp}
-use Rattle.std.specs.FinMap as fin
-use Rattle.std.specs.FinMap.Entries.{find}
+use Rattle.std.proofs.Common.{◌≡◌, ◌⊎◌, ℕ, Bool, true, false, Option, Some, None, refl, ap, sym, subst, ◌∙◌, arith, inl, inr}
+use Rattle.std.specs.Prelude.{nat_le, not, ◌&&◌}
 use Rattle.std.proofs.lemmas.Bool.Decides.{nat_tests}
 use Rattle.tm_data.specs.declared.transaction.Txn.{Txn}
 use Rattle.tm_base.specs.declared.command.Command.{Command}
 use Rattle.tm_base.specs.declared.reply.Reply.{Reply}
 use Rattle.tm_base.specs.declared.reply.Reply.TheVariants as reply
 use Rattle.log_writer.specs.Log.{Log, durable_seq}
-use Rattle.master_model.specs.declared.session.Own.{Own}
 use Rattle.master_model.specs.declared.session.Progress.{Progress}
 use Rattle.master_model.specs.declared.session.Progress.TheVariants.{Active, Undoing, Ended}
 use Rattle.master_model.specs.State.{Work, Life, State, durable}
-use Rattle.master_model.specs.Fates.{has_ended, is_open, is_open_in, is_over}
+use Rattle.master_model.specs.Fates.{has_ended, is_open, is_over}
 use Rattle.master_model.specs.Step.{on_command}
-use Rattle.master_model.specs.Facts.{DurableEnd, EndIsDurable, Facts, Fits, InSession, LifeFacts, SessionFacts, Sessions, WorkFacts, own_txn}
+use Rattle.master_model.specs.Facts.{DurableEnd, EndIsDurable, Facts, Fits, InSession, LifeFacts, SessionFacts, Sessions, WorkFacts}
 use Rattle.master_model.specs.Replies.{HasEnd, SaysDurable, SaysDurableIn, SaysEnd, SaysEndIn}
 use Rattle.master_model.proofs.EndLemmas.{ends_are_durable}
 use Rattle.master_model.proofs.OpenLemmas.{session_open}

@@ -1,17 +1,14 @@
 -- Which own transactions are open, by the sessions, and what has ended.
-use Rattle.std.proofs.Common.{◌≡◌, ◌<◌, ◌≤◌, ◌+◌, ℕ, Bool, true, false, List, [], ◌∷◌, Option, Some, None, refl, ap, sym, subst, ◌∙◌, cond, arith}
-use Rattle.std.specs.Prelude.{T, nat_eq, nat_le, nat_lt, not, ◌&&◌, ◌||◌}
+use Rattle.std.proofs.Common.{◌≡◌, ◌≤◌, ℕ, Bool, true, false, List, [], ◌∷◌, Some, refl, ap, sym, ◌∙◌, cond, arith}
+use Rattle.std.specs.Prelude.{T, nat_eq, nat_le, not, ◌&&◌, ◌||◌}
 use Rattle.std.specs.List.{list_any}
 use Rattle.std.specs.Ordering.{nat_cmp, eq_by_cmp, is_lt}
 use Rattle.std.specs.FinMap as fin
 use Rattle.std.specs.FinMap.Entries.{below_all, find, is_sorted}
-use Rattle.std.specs.FinSet as sets
 use Rattle.std.proofs.lemmas.Bool.Decides.{nat_tests}
-use Rattle.tm_data.specs.declared.transaction.Txn.{Txn}
 use Rattle.master_model.specs.declared.session.Own.{Own}
-use Rattle.master_model.specs.declared.session.Progress.{Progress}
 use Rattle.master_model.specs.State.{Work, durable}
-use Rattle.master_model.specs.Fates.{has_ended, is_ended, is_open, is_open_in, is_over, is_own}
+use Rattle.master_model.specs.Fates.{has_ended, is_open, is_open_in, is_over}
 use Rattle.master_model.specs.Facts.{Sessions}
 
 -- ---- entries

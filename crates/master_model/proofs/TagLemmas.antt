@@ -1,7 +1,7 @@
 -- What holds of a master's tags holds after each move.
 use Rattle.std.proofs.Common.{◌≡◌, ◌<◌, ◌≤◌, ◌+◌, ◌-◌, ℕ, zero, suc, Bool, true, false, List, [], ◌∷◌, ◌++◌, Option, Some, None, refl, ap, sym, subst, ◌∙◌, cond, take, drop, arith}
 use Rattle.std.specs.Prelude.{nat_eq, nat_le, nat_lt, not, ◌&&◌, ◌||◌, slice_get, length}
-use Rattle.std.specs.List.{AllByRecursion, filter}
+use Rattle.std.specs.List.{AllByRecursion}
 use Rattle.std.specs.Ordering.{eq_by_cmp}
 use Rattle.std.specs.FinMap as fin
 use Rattle.std.specs.FinSet.{FinSet}
@@ -9,8 +9,6 @@ use Rattle.std.specs.FinSet as sets
 use Rattle.std.proofs.lemmas.Bool.Decides.{nat_tests}
 use Rattle.tm_data.specs.declared.image.Image.{Image}
 use Rattle.tm_data.specs.declared.log.Group.{Group}
-use Rattle.tm_data.specs.declared.log.Record.{Record}
-use Rattle.tm_data.specs.declared.log.Record.TheVariants.{End}
 use Rattle.tm_data.specs.declared.transaction.Page.{Page}
 use Rattle.tm_data.specs.declared.transaction.Stamp.{Stamp}
 use Rattle.tm_data.specs.declared.transaction.Txn.{Txn}
@@ -32,16 +30,16 @@ use Rattle.master_model.specs.Writes.{last_page, parted, parted_by, tags_after}
 use Rattle.master_model.specs.Ends.{end_of}
 use Rattle.master_model.specs.Acks.{ends_between, ends_in, ends_of, without_all}
 use Rattle.master_model.specs.Leases.{binding, with_images}
-use Rattle.master_model.specs.Facts.{Fits, Has, HasEndAt, PageFacts, SessionFacts, Sessions, TagFacts, groups_in, groups_of, own_txn}
+use Rattle.master_model.specs.Facts.{Fits, Has, PageFacts, SessionFacts, Sessions, TagFacts, groups_in, groups_of, own_txn}
 use Rattle.master_model.proofs.GoesLemmas.{acked_is}
 use Rattle.master_model.proofs.LackLemmas.{all_taken}
 use Rattle.master_model.proofs.LoggedLemmas.{durable_appended}
-use Rattle.master_model.proofs.Moves.{Closed, GoesOn, with_ack_of, without_ended, fresh_taken, begun_in}
+use Rattle.master_model.proofs.Moves.{Closed, GoesOn, with_ack_of, without_ended, begun_in}
 use Rattle.master_model.proofs.OpenLemmas.{OpenIn, open_in_is, open_is_in, open_unended, session_open, unended_open}
 use Rattle.master_model.proofs.PageLemmas.{has_changed, has_granted, has_others, has_recalled, has_released, held_had, page_moves}
 use Rattle.master_model.proofs.SessionLemmas.{gone_other, put_here, put_other, same_at, session_facts, some_is}
 use Rattle.master_model.proofs.StepMoves.{granted_held}
-use Rattle.master_model.proofs.TagSetLemmas.{AllTags, all_inserted, all_moved, all_none, all_with, eq_txn, left_passes}
+use Rattle.master_model.proofs.TagSetLemmas.{AllTags, all_inserted, all_moved, all_with, eq_txn, left_passes}
 
 -- Of a master's pages, sessions and tags.
 abbrev pub Known : Work → Type 0
@@ -65,12 +63,7 @@ unended_by w t own other = by (is_own w t) refl
     by true is = own is
     by false is = other is
 
--- What is open stays so, but for what ends in the move.
-record Stays (a b : Work) (t : Txn) : Type 0 where
-  writer : b.log.writer ≡ a.log.writer
-  ended : b.ended ≡ a.ended
-  opens : 1 ≤ t.number → t.number ≤ b.begun → (t.number ≤ a.begun → OpenIn a.sessions (durable a) t.number) → OpenIn b.sessions (durable b) t.number
-
+-- What hasn't ended hasn't after a move that leaves it open.
 unended_on : (a b : Work) (t : Txn) → (is_own a t ≡ true → 1 ≤ t.number → t.number ≤ b.begun → (t.number ≤ a.begun → OpenIn a.sessions (durable a) t.number) → OpenIn b.sessions (durable b) t.number)
     → b.log.writer ≡ a.log.writer → b.ended ≡ a.ended → is_ended a t ≡ false → is_ended b t ≡ false
 unended_on a b t opens writer ended is = unended_by b t own other
@@ -115,19 +108,15 @@ between P (l ∷ ls) zero (suc count) zero g t committed is says from below h =
 between P (l ∷ ls) zero (suc count) (suc i) g t committed is says from below h =
     between P ls zero count i g t committed is says (omega arith) (omega (arith, below)) (all_split P (ends_in l.group.records) (ends_of (take count ls)) h).1
 
+not_so : (b : Bool) → not b ≡ true → b ≡ false
+not_so true h = cc h
+not_so false h = refl
+
 without_passes : (tags : Tags) (ends : List (Txn × Bool)) (t : PageTag) → sets.contains (without_all tags ends) t ≡ true → (sets.contains tags t ≡ true) × AllByRecursion (λ (e : Txn × Bool). same_txn t.txn e.0 ≡ false) ends
 without_passes tags [] t is = (is, tt)
 without_passes tags (e ∷ es) t is =
     let rest = without_passes (without_txn tags e.0) es t is in
     let here = left_passes tags (λ x. not (same_txn x.txn e.0)) t rest.0 in (here.0, (not_so (same_txn t.txn e.0) here.1, rest.1))
-  where
-    not_so : (b : Bool) → not b ≡ true → b ≡ false
-    not_so true h = cc h
-    not_so false h = refl
-
-not_so : (b : Bool) → not b ≡ true → b ≡ false
-not_so true h = cc h
-not_so false h = refl
 
 same_itself : (t : Txn) → same_txn t t ≡ true
 same_itself t = by (nat_eq t.writer.0 t.writer.0) (nat_eq t.number t.number) (grind (arith, nat_tests)) (grind (arith, nat_tests))
@@ -155,8 +144,8 @@ acked_open log groups begun most number sessions same f none o = record { sessio
             let above : old < seq = grind (arith, nat_tests) in
             let below : seq ≤ most = grind (arith, nat_tests) in
             let k : same_txn (own_txn log number) (own_txn log o.own.number) ≡ false =
-              between (λ (e : Txn × Bool). same_txn (own_txn log number) e.0 ≡ false) groups old (most - old) (seq - 1) fits.group (own_txn log o.own.number) committed
-              (ap (λ (gs : List Group). slice_get gs (seq - 1)) same ∙ fits.there) fits.says (omega (arith, above)) (omega (arith, above, below, fits.from_one)) none in
+            between (λ (e : Txn × Bool). same_txn (own_txn log number) e.0 ≡ false) groups old (most - old) (seq - 1) fits.group (own_txn log o.own.number) committed
+            (ap (λ (gs : List Group). slice_get gs (seq - 1)) same ∙ fits.there) fits.says (omega (arith, above)) (omega (arith, above, below, fits.from_one)) none in
             let yes : same_txn (own_txn log number) (own_txn log o.own.number) ≡ true = ap (λ (n : ℕ). same_txn (own_txn log number) (own_txn log n)) o.same ∙ same_itself (own_txn log number) in absurd (cc (k, yes))
 
 acked_tags : (w : Work) (store seq : ℕ) → nat_lt (durable w) (durable (with_ack_of w store seq)) ≡ false → TagFacts w → TagFacts (with_ack_of w store seq)
@@ -408,8 +397,8 @@ tag_moves = record {
     page_moves.put w p leaf path fresh count is some h.0,
     session_facts.put w p leaf path fresh count is some h.1,
     let had = subst (λ (ps : List Page). AllByRecursion (λ (q : Page). Has w.leases q.0) ps) (sym some) (all_taken (λ (q : Page). Has w.leases q.0) count w.stock h.0.fresh) in
-    let moved_on = to_facts w (tags_after w.tags leaf path fresh) (after_stand w leaf path fresh had (stand_all w h.2)) in
-    let last = session_tags (record w { tags = tags_after w.tags leaf path fresh }) p.session p.own _ is refl (λ k. k) moved_on in record { had = last.had; binds = last.binds },
+        let moved_on = to_facts w (tags_after w.tags leaf path fresh) (after_stand w leaf path fresh had (stand_all w h.2)) in
+        let last = session_tags (record w { tags = tags_after w.tags leaf path fresh }) p.session p.own _ is refl (λ k. k) moved_on in record { had = last.had; binds = last.binds },
   );
   session = λ w session old own is same goes h. (h.0, session_facts.session w session old own is same goes h.1, session_tags w session old own is same (λ k. goes_on w own.number own.progress goes) h.2);
   free = λ w session own committed seq is at durable h. (
