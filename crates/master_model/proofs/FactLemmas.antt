@@ -171,7 +171,7 @@ front_moves start = record {
   acks_more = λ w store seq is. front_acked start w.log w.clock store seq;
   group = λ w records room. front_group start w records room;
   change = λ w r stamp page is h. h;
-  grant = λ w page epoch stamp tags vector new brought fits h.
+  grant = λ w page epoch stamp tags vector new brought fits granted h.
       front_vector start w.log (clock.heard_scalar w.clock stamp.0) vector brought (front_scalar start w.log w.clock stamp.0 fits h);
   image = λ w image held same. image_front start w _;
   fresh_page = λ w page is h. h;

@@ -163,7 +163,7 @@ log_moves = record {
   acks_more = λ w store seq h. log_acked w.log store seq;
   group = λ w records room. log_appended w.log _;
   change = λ w r stamp page is. log_stays w.log;
-  grant = λ w page epoch stamp tags vector new brought fits. log_stays w.log;
+  grant = λ w page epoch stamp tags vector new brought fits granted. log_stays w.log;
   image = λ w image held same. image_log w _;
   fresh_page = λ w page is. log_stays w.log;
   fresh_none = λ w. log_stays w.log;
@@ -225,7 +225,7 @@ clock_moves = record {
   acks_more = λ w store seq h. clock_still w.clock;
   group = λ w records room. group_ticked w.clock;
   change = λ w r stamp page is. clock_still w.clock;
-  grant = λ w page epoch stamp tags vector new brought fits.
+  grant = λ w page epoch stamp tags vector new brought fits granted.
       clock_moves_both w.clock (clock.heard_scalar w.clock stamp.0) (clock.heard_vector (clock.heard_scalar w.clock stamp.0) vector) (stamp_heard w.clock stamp.0)
       (vector_heard (clock.heard_scalar w.clock stamp.0) vector brought.0);
   image = λ w image held same. image_clock w _;
@@ -314,7 +314,7 @@ epoch_moves = record {
   acks_more = λ w store seq h. epochs_stay w.leases;
   group = λ w records room. epochs_stay w.leases;
   change = λ w r stamp page is. epochs_changed w.leases page (record { 0 = stamp });
-  grant = λ w page epoch stamp tags vector new brought fits. epochs_granted w.leases page.0 epoch stamp;
+  grant = λ w page epoch stamp tags vector new brought fits granted. epochs_granted w.leases page.0 epoch stamp;
   image = λ w image held same. image_epochs w _;
   fresh_page = λ w page is. epochs_granted w.leases page.0 1 (record { 0 = 0 });
   fresh_none = λ w. epochs_stay w.leases;

@@ -206,7 +206,7 @@ lease_moves = record {
   acks_more = λ w store seq h f. f;
   group = λ w records room f. f;
   change = λ w r stamp page is f. facts_changed w.leases w.left page (record { 0 = stamp }) f;
-  grant = λ w page epoch stamp tags vector new brought fits f. facts_granted w.leases w.left page.0 epoch stamp new f;
+  grant = λ w page epoch stamp tags vector new brought fits granted f. facts_granted w.leases w.left page.0 epoch stamp new f;
   image = λ w image held same. image_leases w _;
   fresh_page = λ w page is f. facts_fresh w.leases w.left page.0 (second_of_two (nat_lt 1024 page.0) (nat_eq (lease_of w.leases page.0).epoch 0) is) f;
   fresh_none = λ w f. f;

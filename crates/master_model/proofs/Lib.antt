@@ -20,4 +20,5 @@ mod EndLemmas
 mod OpenLemmas
 mod TagSetLemmas
 mod TagLemmas
+mod BegunLemmas
 mod EndedLemmas

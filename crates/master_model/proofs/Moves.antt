@@ -76,7 +76,12 @@ GoesOn w number Active = ⊥
 GoesOn w number (Undoing left) = Unit {0}
 GoesOn w number (Ended committed seq) = HasEndAt (groups_of w.log) seq (own_txn w.log number) committed × (durable w < seq)
 
-pub record Closed (R : Work → Work → Type 0) : Type 0 where
+-- Where a grant may bring any tags.
+abbrev pub AnyTags : Work → List Tag → Type 0
+AnyTags w tags = Unit {0}
+
+-- A relation that holds of each move, where the tags that a grant brings have a property.
+pub record ClosedFor (G : Work → List Tag → Type 0) (R : Work → Work → Type 0) : Type 0 where
   pub none : (w : Work) → R w w
   pub both : (a b c : Work) → R a b → R b c → R a c
   -- the clock
@@ -89,7 +94,7 @@ pub record Closed (R : Work → Work → Type 0) : Type 0 where
   pub change : (w : Work) (r : Record) (stamp page : ℕ) → stamp ≡ w.clock.scalar → R w (with_change w r stamp (Some page))
   -- pages
   pub grant : (w : Work) (page : Page) (epoch : ℕ) (stamp : Stamp) (tags : List Tag) (vector : List VectorEntry)
-      → nat_lt (lease_of w.leases page.0).epoch epoch ≡ true → Brought vector → stamp.0 ≤ 2 ^ 63 - 1 → R w (takes_page w page epoch stamp tags vector)
+      → nat_lt (lease_of w.leases page.0).epoch epoch ≡ true → Brought vector → stamp.0 ≤ 2 ^ 63 - 1 → G w tags → R w (takes_page w page epoch stamp tags vector)
   pub image : (w : Work) (image : Image) → is_held (lease_of w.leases image.page.0).state ≡ true → image.stamp.0 ≡ (lease_of w.leases image.page.0).stamp.0 → R w (with_image w image)
   pub fresh_page : (w : Work) (page : Page) → nat_lt 1024 page.0 && nat_eq (lease_of w.leases page.0).epoch 0 ≡ true → R w (fresh_taken w page)
   pub fresh_none : (w : Work) → R w (record w { fresh = w.fresh + 1; spent = true })
@@ -110,6 +115,9 @@ pub record Closed (R : Work → Work → Type 0) : Type 0 where
   pub session : (w : Work) (session : ℕ) (old own : Own) → fin.get w.sessions session ≡ Some old → own.number ≡ old.number → GoesOn w own.number own.progress → R w (with_session w session own)
   pub free : (w : Work) (session : ℕ) (own : Own) (committed : Bool) (seq : ℕ) → fin.get w.sessions session ≡ Some own → own.progress ≡ Ended committed seq → seq ≤ durable w → R w (free w session)
 
+abbrev pub Closed : (Work → Work → Type 0) → Type 0
+Closed R = ClosedFor AnyTags R
+
 -- What an answer or an effect makes of it.
 abbrev Stops : (Work → Work → Type 0) → Work → Option Answer → Type 0
 Stops R w None = Unit {0}
@@ -127,7 +135,7 @@ room_left w g count room =
       stamps = omega (arith, room.stamps, ap (λ (s : _). s.scalar) same.1);
     }
 
-module _ {R : Work → Work → Type 0} (c : Closed R) where
+module _ {G : Work → List Tag → Type 0} {R : Work → Work → Type 0} (c : ClosedFor G R) where
   change_moves : (w : Work) (r : Record) (stamp : ℕ) (o : Option ℕ) → stamp ≡ w.clock.scalar → R w (with_change w r stamp o)
   change_moves w r stamp None is = c.none w
   change_moves w r stamp (Some page) is = c.change w r stamp page is

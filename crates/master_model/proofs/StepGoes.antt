@@ -89,7 +89,7 @@ rest_moves = record {
   acks_more = λ w store seq h. rest_same w _ refl refl refl refl refl;
   group = λ w records room. rest_same w _ refl refl refl refl refl;
   change = λ w r stamp page is. rest_same w _ refl refl refl refl refl;
-  grant = λ w page epoch stamp tags vector new brought fits. rest_same w _ refl refl refl refl refl;
+  grant = λ w page epoch stamp tags vector new brought fits granted. rest_same w _ refl refl refl refl refl;
   image = λ w image held same. image_rest w _;
   fresh_page = λ w page is. record { number = refl; stores = refl; ends = λ t h. h; begun = omega arith; fresh = omega arith };
   fresh_none = λ w. record { number = refl; stores = refl; ends = λ t h. h; begun = omega arith; fresh = omega arith };

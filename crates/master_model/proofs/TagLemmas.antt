@@ -50,7 +50,7 @@ TagMoves a b = Known a → Known b
 
 -- ---- what hasn't ended
 
-unended_own : (w : Work) (t : Txn) → is_ended w t ≡ false → is_own w t ≡ true → has_ended w t.number ≡ false
+pub unended_own : (w : Work) (t : Txn) → is_ended w t ≡ false → is_own w t ≡ true → has_ended w t.number ≡ false
 unended_own w t is own = sym (ap (λ (b : Bool). cond b (has_ended w t.number) (sets.contains w.ended t)) own) ∙ is
 
 unended_other : (w : Work) (t : Txn) → is_ended w t ≡ false → is_own w t ≡ false → sets.contains w.ended t ≡ false
@@ -112,7 +112,7 @@ not_so : (b : Bool) → not b ≡ true → b ≡ false
 not_so true h = cc h
 not_so false h = refl
 
-without_passes : (tags : Tags) (ends : List (Txn × Bool)) (t : PageTag) → sets.contains (without_all tags ends) t ≡ true → (sets.contains tags t ≡ true) × AllByRecursion (λ (e : Txn × Bool). same_txn t.txn e.0 ≡ false) ends
+pub without_passes : (tags : Tags) (ends : List (Txn × Bool)) (t : PageTag) → sets.contains (without_all tags ends) t ≡ true → (sets.contains tags t ≡ true) × AllByRecursion (λ (e : Txn × Bool). same_txn t.txn e.0 ≡ false) ends
 without_passes tags [] t is = (is, tt)
 without_passes tags (e ∷ es) t is =
     let rest = without_passes (without_txn tags e.0) es t is in
@@ -356,8 +356,8 @@ tag_moves = record {
     record { had = h.2.had; binds = λ t at. same_durable w (appended w.log _) t.txn refl (durable_appended w.log _) (h.2.binds t at) },
   );
   change = λ w r stamp page is h. (page_moves.change w r stamp page is h.0, h.1, record { had = λ t at. has_changed w.leases page (record { 0 = stamp }) t.page (h.2.had t at); binds = h.2.binds });
-  grant = λ w page epoch stamp tags vector new brought fits h. (
-    page_moves.grant w page epoch stamp tags vector new brought fits h.0,
+  grant = λ w page epoch stamp tags vector new brought fits granted h. (
+    page_moves.grant w page epoch stamp tags vector new brought fits granted h.0,
     h.1,
     let all = granted_tags w page.0 epoch stamp tags new h.2 in record { had = λ t at. (all t at).0; binds = λ t at. (all t at).1 },
   );

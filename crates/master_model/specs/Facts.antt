@@ -16,6 +16,7 @@ use Rattle.tm_data.specs.Vectors.{IsVector, greatest, stamp_of}
 use Rattle.tm_base.specs.declared.message.Message.{Message}
 use Rattle.tm_base.specs.declared.message.Note.{Note}
 use Rattle.tm_base.specs.declared.message.Note.TheVariants as note
+use Rattle.tm_base.specs.declared.message.Tag.{Tag}
 use Rattle.vs_clock.specs.State as clock
 use Rattle.log_writer.specs.declared.logged.Logged.{Logged}
 use Rattle.page_model.specs.Pool.{OneEach}
@@ -30,7 +31,7 @@ use Rattle.master_model.specs.declared.session.Own.{Own}
 use Rattle.master_model.specs.declared.session.Progress.{Progress}
 use Rattle.master_model.specs.declared.session.Progress.TheVariants.{Active, Undoing, Ended}
 use Rattle.master_model.specs.Tags.{PageTag}
-use Rattle.master_model.specs.Fates.{is_ended}
+use Rattle.master_model.specs.Fates.{is_ended, is_own}
 use Rattle.master_model.specs.Ends.{end_of}
 use Rattle.master_model.specs.State.{Work, Life, State}
 
@@ -225,3 +226,28 @@ Facts start s = LifeFacts start s.life
 abbrev pub JoinsAfter : ℕ → Option Life → ℕ → Type 0
 JoinsAfter start None stamp = start ≤ stamp
 JoinsAfter start (Some l) stamp = Unit {0}
+
+-- ---- own shared locks
+
+-- If a transaction is an own one, it was begun.
+abbrev pub IsBegun : Work → Txn → Type 0
+IsBegun w t = is_own w t ≡ true → (1 ≤ t.number) × (t.number ≤ w.begun)
+
+-- So is that of each own tag.
+abbrev pub TagsAreBegun : Work → Type 0
+TagsAreBegun w = (t : PageTag) → sets.contains w.tags t ≡ true → IsBegun w t.txn
+
+abbrev pub OwnTags : Option Life → Type 0
+OwnTags None = Unit {0}
+OwnTags (Some l) = TagsAreBegun l.work
+
+-- A tag is first made by its transaction's master, and goes on with its page by releases and grants. So the own ones
+-- that a grant brings back are of transactions that were begun; that masters and the lock manager keep this is for the
+-- world to say.
+abbrev pub GrantsBegun : Work → Note → Type 0
+GrantsBegun w (note.Grant writer page epoch stamp tags vector) = AllByRecursion (λ (t : Tag). IsBegun w t.txn) tags
+GrantsBegun w other = Unit {0}
+
+abbrev pub GrantIsBegun : Option Life → Note → Type 0
+GrantIsBegun None n = Unit {0}
+GrantIsBegun (Some l) n = GrantsBegun l.work n

@@ -7,17 +7,19 @@
 //! message has that the format of messages can spell.
 ghost use Rattle.std.specs.Prelude.{◌≡◌, ℕ, true, List, Option};
 ghost use Rattle.std.specs.List.{AllByRecursion};
+ghost use Rattle.std.specs.FinSet as sets;
 ghost use Rattle.log_writer.specs.Log.{resent, unacked};
 ghost use Rattle.tm_base.specs.declared.command.Command.{Command};
 ghost use Rattle.tm_base.specs.declared.command.Command.TheVariants as command;
 ghost use Rattle.tm_base.specs.declared.message.Message.{Message};
 ghost use Rattle.tm_base.specs.declared.reply.Reply.TheVariants as reply;
 ghost use Rattle.master_model.specs.State.{State, Work};
-ghost use Rattle.master_model.specs.Fates.{has_ended};
+ghost use Rattle.master_model.specs.Fates.{has_ended, is_open, is_own};
+ghost use Rattle.master_model.specs.Tags.{PageTag};
 ghost use Rattle.master_model.specs.Reads.{get};
 ghost use Rattle.master_model.specs.Replies.{PathIsHere, QuietOrAsking, Reads, SaysDurableIn, SaysEndIn};
 ghost use Rattle.master_model.specs.Step.{on_command, start, step, tick};
-ghost use Rattle.master_model.specs.Facts.{Brings, EndIsDurable, Facts, JoinsAfter, Lacks, WorkFacts};
+ghost use Rattle.master_model.specs.Facts.{Brings, EndIsDurable, Facts, GrantIsBegun, JoinsAfter, Lacks, OwnTags, TagsAreBegun, WorkFacts};
 ghost use Rattle.master_model.specs.Goes.{Goes};
 ghost use Rattle.master_model.specs.Told.{Sent};
 
@@ -48,6 +50,21 @@ pub fn a_message_keeps_the_facts()
 /// a page that isn't here.
 pub fn a_command_keeps_the_facts()
     ensures { (begun : ℕ) (s : State) (session : ℕ) (asked : Command) → Facts begun s → Facts begun (on_command s session asked).0 }
+{}
+
+/// The shared locks of own transactions are of those that were begun, after each message and command, as long as
+/// those that a grant brings are: a lock is first made by its transaction's master, and goes on with its page by
+/// releases and grants, which the lock manager keeps as they came. Refused are a get that locks in the name of the transaction that is begun next, and a begin that starts again at 1.
+pub fn own_locks_are_of_begun_transactions()
+    ensures start { (number boot stores : ℕ) → OwnTags (start number boot stores).0.life }
+    ensures message { (begun : ℕ) (s : State) (m : Message) → Facts begun s → OwnTags s.life → Brings m → GrantIsBegun s.life m.note → OwnTags (step s m).0.life }
+    ensures command { (begun : ℕ) (s : State) (session : ℕ) (asked : Command) → Facts begun s → OwnTags s.life → OwnTags (on_command s session asked).0.life }
+{}
+
+/// And so each of them is of an open transaction: of a session's, whose end isn't durable. Refused are a session that
+/// is free while its transaction has locks, and an abort that is durable and leaves its locks.
+pub fn an_own_lock_is_of_an_open_transaction()
+    ensures { (begun : ℕ) (w : Work) (t : PageTag) → WorkFacts begun w → TagsAreBegun w → sets.contains w.tags t ≡ true → is_own w t.txn ≡ true → is_open w t.txn.number ≡ true }
 {}
 
 /// What a log store lacks is the log's: each group that it hasn't acknowledged, and so each one that is sent to it
