@@ -89,7 +89,7 @@ begun_moves = record {
     session_facts.acks_more w store seq is h.0,
     λ t at. h.1 t (without_passes w.tags (ends_between (with_ack_of w store seq).log.groups (durable w) (durable (with_ack_of w store seq))) t at).0,
   );
-  group = λ w records room h. (session_facts.group w records room h.0, h.1);
+  group = λ w records none room h. (session_facts.group w records none room h.0, h.1);
   change = λ w r stamp page is h. h;
   grant = λ w page epoch stamp tags vector new brought fits granted h. (
     h.0,
@@ -111,7 +111,8 @@ begun_moves = record {
     all_inserted (λ (t : PageTag). IsBegun w t.txn) w.tags (page_tag page key (txn_numbered w own.number)) h.1 (λ mine. let f = h.0.each session own is in (f.from_one, f.most)),
   );
   put = λ w p leaf path fresh count is some h. (session_facts.put w p leaf path fresh count is some h.0, all_after (IsBegun w) w.tags leaf path fresh h.1);
-  session = λ w session old own is same goes h. (session_facts.session w session old own is same goes h.0, h.1);
+  session = λ w session own left is going h. (session_facts.session w session own left is going h.0, h.1);
+  ends = λ w session own committed is going room h. (session_facts.ends w session own committed is going room h.0, h.1);
   free = λ w session own committed seq is at durable h. (session_facts.free w session own committed seq is at durable h.0, h.1);
 }
 

@@ -161,7 +161,7 @@ log_moves = record {
   hears_vector = λ w vector h. log_stays w.log;
   acks = λ w store seq h. log_acked w.log store seq;
   acks_more = λ w store seq h. log_acked w.log store seq;
-  group = λ w records room. log_appended w.log _;
+  group = λ w records none room. log_appended w.log _;
   change = λ w r stamp page is. log_stays w.log;
   grant = λ w page epoch stamp tags vector new brought fits granted. log_stays w.log;
   image = λ w image held same. image_log w _;
@@ -177,7 +177,8 @@ log_moves = record {
   begin = λ w session is. log_stays w.log;
   tag = λ w session page key own is active held. log_stays w.log;
   put = λ w p leaf path fresh count is some. log_stays w.log;
-  session = λ w session old own is same goes. log_stays w.log;
+  session = λ w session own left is going. log_stays w.log;
+  ends = λ w session own committed is going room. log_appended w.log _;
   free = λ w session own committed seq is at durable. log_stays w.log;
 }
 
@@ -223,7 +224,7 @@ clock_moves = record {
   hears_vector = λ w vector h. vector_heard w.clock vector h.0;
   acks = λ w store seq h. clock_still w.clock;
   acks_more = λ w store seq h. clock_still w.clock;
-  group = λ w records room. group_ticked w.clock;
+  group = λ w records none room. group_ticked w.clock;
   change = λ w r stamp page is. clock_still w.clock;
   grant = λ w page epoch stamp tags vector new brought fits granted.
       clock_moves_both w.clock (clock.heard_scalar w.clock stamp.0) (clock.heard_vector (clock.heard_scalar w.clock stamp.0) vector) (stamp_heard w.clock stamp.0)
@@ -241,7 +242,8 @@ clock_moves = record {
   begin = λ w session is. clock_still w.clock;
   tag = λ w session page key own is active held. clock_still w.clock;
   put = λ w p leaf path fresh count is some. clock_still w.clock;
-  session = λ w session old own is same goes. clock_still w.clock;
+  session = λ w session own left is going. clock_still w.clock;
+  ends = λ w session own committed is going room. group_ticked w.clock;
   free = λ w session own committed seq is at durable. clock_still w.clock;
 }
 
@@ -312,7 +314,7 @@ epoch_moves = record {
   hears_vector = λ w vector h. epochs_stay w.leases;
   acks = λ w store seq h. epochs_stay w.leases;
   acks_more = λ w store seq h. epochs_stay w.leases;
-  group = λ w records room. epochs_stay w.leases;
+  group = λ w records none room. epochs_stay w.leases;
   change = λ w r stamp page is. epochs_changed w.leases page (record { 0 = stamp });
   grant = λ w page epoch stamp tags vector new brought fits granted. epochs_granted w.leases page.0 epoch stamp;
   image = λ w image held same. image_epochs w _;
@@ -328,6 +330,7 @@ epoch_moves = record {
   begin = λ w session is. epochs_stay w.leases;
   tag = λ w session page key own is active held. epochs_stay w.leases;
   put = λ w p leaf path fresh count is some. epochs_stay w.leases;
-  session = λ w session old own is same goes. epochs_stay w.leases;
+  session = λ w session own left is going. epochs_stay w.leases;
+  ends = λ w session own committed is going room. epochs_stay w.leases;
   free = λ w session own committed seq is at durable. epochs_stay w.leases;
 }

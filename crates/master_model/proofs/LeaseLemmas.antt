@@ -204,7 +204,7 @@ lease_moves = record {
   hears_vector = λ w vector h f. f;
   acks = λ w store seq h f. f;
   acks_more = λ w store seq h f. f;
-  group = λ w records room f. f;
+  group = λ w records none room f. f;
   change = λ w r stamp page is f. facts_changed w.leases w.left page (record { 0 = stamp }) f;
   grant = λ w page epoch stamp tags vector new brought fits granted f. facts_granted w.leases w.left page.0 epoch stamp new f;
   image = λ w image held same. image_leases w _;
@@ -220,7 +220,8 @@ lease_moves = record {
   begin = λ w session is f. f;
   tag = λ w session page key own is active held f. f;
   put = λ w p leaf path fresh count is some f. f;
-  session = λ w session old own is same goes f. f;
+  session = λ w session own left is going f. f;
+  ends = λ w session own committed is going room f. f;
   free = λ w session own committed seq is at durable f. f;
 }
 

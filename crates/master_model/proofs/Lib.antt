@@ -1,5 +1,6 @@
 mod AwaitedLemmas
 mod LoggedLemmas
+mod PlanLemmas
 mod Moves
 mod StepMoves
 mod GoesLemmas

@@ -8,6 +8,7 @@ use Rattle.tm_data.specs.declared.image.Image.{Image}
 use Rattle.tm_data.specs.declared.log.Group.{Group}
 use Rattle.tm_data.specs.declared.log.Record.{Record}
 use Rattle.tm_data.specs.declared.transaction.Page.{Page}
+use Rattle.tm_data.specs.declared.transaction.Txn.{Txn}
 use Rattle.page_model.specs.Effects.{page_of}
 use Rattle.page_model.specs.Pool.{image_of}
 use Rattle.page_model.specs.Splits.{images_on, with_image}
@@ -57,41 +58,13 @@ logs_beside w (r ∷ rs) =
     let one = changes_beside (record w { clock = told (ticked w.clock); log = appended w.log g }) g.records g.stamp.0 in
     let rest = logs_beside (with_group w g) rs in (rest.0 ∙ one.0, rest.1 ∙ one.1)
 
--- ---- the last group
-
--- The log is the writer's, and its last group has these records, and isn't acknowledged yet.
-pub record EndsWith (w : Work) (log : Log) (records : List Record) : Type 0 where
-  pub writer : log.writer ≡ w.log.writer
-  pub front : List Logged
-  pub last : Logged
-  pub groups : log.groups ≡ front ++ last ∷ []
-  pub says : last.group.records ≡ records
-  pub new : last.acks ≡ no_acks
-
-pub logs_end : (w : Work) (groups : List (List Record)) (records : List Record) → EndsWith w (logs w (groups ++ records ∷ [])).work.log records
-logs_end w [] records =
-    let g : Group = next_group w records in
-    let same = (changes_front (record w { clock = told (ticked w.clock); log = appended w.log g }) g.records g.stamp.0).0 in
-    record {
-      writer = ap (λ (l : Log). l.writer) same;
-      front = w.log.groups;
-      last = record { group = g; acks = no_acks };
-      groups = ap (λ (l : Log). l.groups) same;
-      says = refl;
-      new = refl;
-    }
-logs_end w (r ∷ rs) records =
+pub logs_writer : (w : Work) (groups : List (List Record)) → (logs w groups).work.log.writer ≡ w.log.writer
+logs_writer w [] = refl
+logs_writer w (r ∷ rs) =
     let g : Group = next_group w r in
-    let same = (changes_front (record w { clock = told (ticked w.clock); log = appended w.log g }) g.records g.stamp.0).0 in
-    let rest = logs_end (with_group w g) rs records in
-    record {
-      writer = rest.writer ∙ ap (λ (l : Log). l.writer) same;
-      front = rest.front;
-      last = rest.last;
-      groups = rest.groups;
-      says = rest.says;
-      new = rest.new;
-    }
+    let same = (changes_front (record w { clock = told (ticked w.clock); log = appended w.log g }) g.records g.stamp.0).0 in logs_writer (with_group w g) rs ∙ ap (λ (l : Log). l.writer) same
+
+-- ---- the last group
 
 last_there : (front : List Logged) (last : Logged) → slice_get (groups_in (front ++ last ∷ [])) (length front) ≡ Some last.group
 last_there [] last = refl
@@ -118,20 +91,17 @@ pub durable_appended : (log : Log) (g : Group) → durable_seq (appended log g).
 durable_appended log g = pushed_same (λ l. has_all l.acks) log.groups (record { group = g; acks = no_acks }) refl
 
 -- The end is there, and isn't durable yet.
-pub end_at : (w : Work) (log : Log) (number : ℕ) (committed : Bool) → EndsWith w log (end_of (own_txn w.log number) committed)
-    → HasEndAt (groups_of log) (length log.groups) (own_txn log number) committed × (durable_seq log.groups < length log.groups)
-end_at w log number committed e = (
+pub end_at : (log : Log) (g : Group) (t : Txn) (committed : Bool) → g.records ≡ end_of t committed
+    → HasEndAt (groups_of (appended log g)) (length log.groups + 1) t committed × (durable_seq (appended log g).groups < length log.groups + 1)
+end_at log g t committed says = (
   record {
-    group = e.last.group;
-    from_one = omega (arith, long);
-    there = ap (λ (ls : List Logged). slice_get (groups_in ls) (length log.groups - 1)) e.groups ∙ (ap (λ (n : ℕ). slice_get (groups_in (e.front ++ e.last ∷ [])) n) (omega (arith, long)) ∙ last_there e.front e.last);
-    says = e.says ∙ ap (λ (x : _). end_of (record { writer = x; number = number }) committed) (sym e.writer);
+    group = g;
+    from_one = omega arith;
+    there = ap (λ (n : ℕ). slice_get (groups_of (appended log g)) n) (omega arith) ∙ last_there log.groups (record { group = g; acks = no_acks });
+    says = says;
   },
-  omega (arith, long, ap (λ (ls : List Logged). durable_seq ls) e.groups, new_lacked (λ l. has_all l.acks) e.front e.last (ap has_all e.new)),
+  omega (arith, new_lacked (λ l. has_all l.acks) log.groups (record { group = g; acks = no_acks }) refl),
 )
-  where
-    long : length log.groups ≡ length e.front + 1
-    long = ap (λ (ls : List Logged). length ls) e.groups ∙ length-append e.front (e.last ∷ [])
 
 -- ---- the leaf of a path
 

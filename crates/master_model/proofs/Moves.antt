@@ -39,12 +39,13 @@ use Rattle.master_model.specs.Reads.{with_session, txn_numbered}
 use Rattle.master_model.specs.Writes as writes
 use Rattle.master_model.specs.Writes.{Put, tags_after, with_written}
 use Rattle.master_model.specs.Ends as ends
-use Rattle.master_model.specs.Ends.{Awaited, awaited, free}
+use Rattle.master_model.specs.Ends.{Awaited, awaited, free, end_of}
 use Rattle.master_model.specs.Leases.{gives_back, takes_page, with_image}
-use Rattle.master_model.specs.Acks.{ends_between, without_all}
-use Rattle.master_model.specs.Facts.{Brought, HasEndAt, Sessions, groups_of, own_txn}
+use Rattle.master_model.specs.Acks.{ends_between, without_all, ends_in}
+use Rattle.master_model.specs.Facts.{Brought, Sessions, is_at_end}
+use Rattle.master_model.proofs.PlanLemmas.{NoEnds, PlanHasNone, plan_has_none, undo_has_none}
 use Rattle.master_model.proofs.AwaitedLemmas.{none_awaited}
-use Rattle.master_model.proofs.LoggedLemmas.{EndsWith, change_front, changes_front, end_at, leaf_held, logs_beside, logs_end}
+use Rattle.master_model.proofs.LoggedLemmas.{change_front, changes_front, leaf_held, logs_beside, logs_writer}
 
 -- ---- the moves
 
@@ -70,11 +71,11 @@ fresh_taken w page = record w {
 abbrev pub begun_in : Work → ℕ → Work
 begun_in w session = with_session (record w { begun = w.begun + 1 }) session (record { number = w.begun + 1; written = sets.empty; progress = Active })
 
--- A session's transaction goes on to undo its rows, or to its end, which is in the log and isn't durable yet.
-abbrev pub GoesOn : Work → ℕ → Progress → Type 0
-GoesOn w number Active = ⊥
-GoesOn w number (Undoing left) = Unit {0}
-GoesOn w number (Ended committed seq) = HasEndAt (groups_of w.log) seq (own_txn w.log number) committed × (durable w < seq)
+-- A session's transaction has its end in the log, as the next group.
+abbrev pub ended_in : Work → ℕ → Own → Bool → Work
+ended_in w session own committed =
+    with_session (record w { clock = told (ticked w.clock); log = appended w.log (next_group w (end_of (txn_numbered w own.number) committed)) }) session
+    (record own { progress = Ended committed (length w.log.groups + 1) })
 
 -- Where a grant may bring any tags.
 abbrev pub AnyTags : Work → List Tag → Type 0
@@ -90,7 +91,7 @@ pub record ClosedFor (G : Work → List Tag → Type 0) (R : Work → Work → T
   -- the log
   pub acks : (w : Work) (store seq : ℕ) → nat_lt (durable w) (durable (with_ack_of w store seq)) ≡ false → R w (with_ack_of w store seq)
   pub acks_more : (w : Work) (store seq : ℕ) → nat_lt (durable w) (durable (with_ack_of w store seq)) ≡ true → R w (without_ended (with_ack_of w store seq) (durable w))
-  pub group : (w : Work) (records : List Record) → HasRoom w 1 → R w (record w { clock = told (ticked w.clock); log = appended w.log (next_group w records) })
+  pub group : (w : Work) (records : List Record) → ends_in records ≡ [] → HasRoom w 1 → R w (record w { clock = told (ticked w.clock); log = appended w.log (next_group w records) })
   pub change : (w : Work) (r : Record) (stamp page : ℕ) → stamp ≡ w.clock.scalar → R w (with_change w r stamp (Some page))
   -- pages
   pub grant : (w : Work) (page : Page) (epoch : ℕ) (stamp : Stamp) (tags : List Tag) (vector : List VectorEntry)
@@ -112,7 +113,8 @@ pub record ClosedFor (G : Work → List Tag → Type 0) (R : Work → Work → T
       → R w (record w { tags = with_tag w.tags page key (txn_numbered w own.number) })
   pub put : (w : Work) (p : Put) (leaf : Image) (path fresh : List Page) (count : ℕ) → fin.get w.sessions p.session ≡ Some p.own → fresh ≡ take count w.stock
       → R w (with_session (record w { tags = tags_after w.tags leaf path fresh; stock = drop (length fresh) w.stock }) p.session (with_written p.own p.table p.row.key))
-  pub session : (w : Work) (session : ℕ) (old own : Own) → fin.get w.sessions session ≡ Some old → own.number ≡ old.number → GoesOn w own.number own.progress → R w (with_session w session own)
+  pub session : (w : Work) (session : ℕ) (own : Own) (left : List RowKey) → fin.get w.sessions session ≡ Some own → is_at_end own.progress ≡ false → R w (with_session w session (record own { progress = Undoing left }))
+  pub ends : (w : Work) (session : ℕ) (own : Own) (committed : Bool) → fin.get w.sessions session ≡ Some own → is_at_end own.progress ≡ false → HasRoom w 1 → R w (ended_in w session own committed)
   pub free : (w : Work) (session : ℕ) (own : Own) (committed : Bool) (seq : ℕ) → fin.get w.sessions session ≡ Some own → own.progress ≡ Ended committed seq → seq ≤ durable w → R w (free w session)
 
 abbrev pub Closed : (Work → Work → Type 0) → Type 0
@@ -135,6 +137,16 @@ room_left w g count room =
       stamps = omega (arith, room.stamps, ap (λ (s : _). s.scalar) same.1);
     }
 
+rooms_left : (w : Work) (groups : List (List Record)) (count : ℕ) → HasRoom w (length groups + count) → HasRoom (logs w groups).work count
+rooms_left w [] count room = record { numbers = omega (arith, room.numbers); stamps = omega (arith, room.stamps) }
+rooms_left w (r ∷ rs) count room =
+    rooms_left (with_group w (next_group w r)) rs count (room_left w (next_group w r) (length rs + count) (record { numbers = omega (arith, room.numbers); stamps = omega (arith, room.stamps) }))
+
+-- The end is logged last.
+end_last : (w : Work) (undone : List (List Record)) (records : List Record) → (logs w (undone ++ records ∷ [])).work ≡ with_group (logs w undone).work (next_group (logs w undone).work records)
+end_last w [] records = refl
+end_last w (r ∷ rs) records = end_last (with_group w (next_group w r)) rs records
+
 module _ {G : Work → List Tag → Type 0} {R : Work → Work → Type 0} (c : ClosedFor G R) where
   change_moves : (w : Work) (r : Record) (stamp : ℕ) (o : Option ℕ) → stamp ≡ w.clock.scalar → R w (with_change w r stamp o)
   change_moves w r stamp None is = c.none w
@@ -147,18 +159,18 @@ module _ {G : Work → List Tag → Type 0} {R : Work → Work → Type 0} (c : 
       c.both w next (with_changes next rs stamp) (change_moves w r stamp (page_of r) is)
       (changes_move next rs stamp (is ∙ sym (ap (λ (s : _). s.scalar) (change_front w r stamp (page_of r)).1)))
 
-  pub group_moves : (w : Work) (rs : List Record) → HasRoom w 1 → R w (with_group w (next_group w rs))
-  group_moves w rs room =
+  pub group_moves : (w : Work) (rs : List Record) → ends_in rs ≡ [] → HasRoom w 1 → R w (with_group w (next_group w rs))
+  group_moves w rs none room =
       let base : Work = record w { clock = told (ticked w.clock); log = appended w.log (next_group w rs) } in
-      c.both w base (with_group w (next_group w rs)) (c.group w rs room) (changes_move base rs (w.clock.scalar + 1) refl)
+      c.both w base (with_group w (next_group w rs)) (c.group w rs none room) (changes_move base rs (w.clock.scalar + 1) refl)
 
-  pub logs_moves : (w : Work) (groups : List (List Record)) → HasRoom w (length groups) → R w (logs w groups).work
-  logs_moves w [] room = c.none w
-  logs_moves w (r ∷ rs) room =
+  pub logs_moves : (w : Work) (groups : List (List Record)) → NoEnds groups → HasRoom w (length groups) → R w (logs w groups).work
+  logs_moves w [] none room = c.none w
+  logs_moves w (r ∷ rs) none room =
       let next : Work = with_group w (next_group w r) in
       let more : HasRoom w (length rs + 1) = record { numbers = omega (arith, room.numbers); stamps = omega (arith, room.stamps) } in
-      c.both w next (logs next rs).work (group_moves w r (record { numbers = omega (arith, room.numbers); stamps = omega (arith, room.stamps) }))
-      (logs_moves next rs (room_left w (next_group w r) (length rs) more))
+      c.both w next (logs next rs).work (group_moves w r none.0 (record { numbers = omega (arith, room.numbers); stamps = omega (arith, room.stamps) }))
+      (logs_moves next rs none.1 (room_left w (next_group w r) (length rs) more))
 
   room_moves : (w : Work) (count : ℕ) (a : Answer) → (HasRoom w count → R w a.work) → R w (with_room w count a).work
   room_moves w count a h = by (has_numbers w count) (has_stamps w count) refl refl
@@ -265,29 +277,29 @@ module _ {G : Work → List Tag → Type 0} {R : Work → Work → Type 0} (c : 
 
   -- ---- put and del
 
-  put_logs : (w : Work) (p : Put) (path : List Page) (leaf : Image) (fresh : List Page) (groups : List (List Record)) (count : ℕ) → fin.get w.sessions p.session ≡ Some p.own → fresh ≡ take count w.stock
+  put_logs : (w : Work) (p : Put) (path : List Page) (leaf : Image) (fresh : List Page) (groups : List (List Record)) (count : ℕ) → NoEnds groups → fin.get w.sessions p.session ≡ Some p.own → fresh ≡ take count w.stock
       → R w (writes.put_planned p w path leaf fresh groups).work
-  put_logs w p path leaf fresh groups count is some = by (writes.first_missing (here w) fresh)
+  put_logs w p path leaf fresh groups count none is some = by (writes.first_missing (here w) fresh)
     where
       by : (o : Option Page) → R w (writes.if_here w o (with_room w (length groups) (writes.put_logged p leaf path fresh (logs w groups)))).work
       by (Some page) = c.none w
       by None = room_moves w (length groups) (writes.put_logged p leaf path fresh (logs w groups)) (λ room.
-          c.both w (logs w groups).work _ (logs_moves w groups room) (c.put (logs w groups).work p leaf path fresh count
+          c.both w (logs w groups).work _ (logs_moves w groups none room) (c.put (logs w groups).work p leaf path fresh count
           (ap (λ (m : Sessions). fin.get m p.session) (logs_beside w groups).0 ∙ is) (some ∙ ap (λ (ps : List Page). take count ps) (sym (logs_beside w groups).1))))
 
-  put_plans : (w : Work) (p : Put) (path : List Page) (leaf : Image) (r : Result (List (List Record)) Refusal) → fin.get w.sessions p.session ≡ Some p.own → R w (writes.put_by p w path leaf r).work
-  put_plans w p path leaf (Err TooHigh) is = c.none w
-  put_plans w p path leaf (Err (Wanting wanting)) is = by w.spent
+  put_plans : (w : Work) (p : Put) (path : List Page) (leaf : Image) (r : Result (List (List Record)) Refusal) → PlanHasNone r → fin.get w.sessions p.session ≡ Some p.own → R w (writes.put_by p w path leaf r).work
+  put_plans w p path leaf (Err TooHigh) none is = c.none w
+  put_plans w p path leaf (Err (Wanting wanting)) none is = by w.spent
     where
       by : (b : Bool) → R w (writes.wants_fresh w wanting b).work
       by true = c.none w
       by false = c.none w
-  put_plans w p path leaf (Ok groups) is = put_logs w p path leaf (take (writes.fresh_needed w path p.row) w.stock) groups (writes.fresh_needed w path p.row) is refl
+  put_plans w p path leaf (Ok groups) none is = put_logs w p path leaf (take (writes.fresh_needed w path p.row) w.stock) groups (writes.fresh_needed w path p.row) none is refl
 
   put_frees : (w : Work) (p : Put) (path : List Page) (leaf : Image) → fin.get w.sessions p.session ≡ Some p.own → R w (writes.put_free p w path leaf).work
   put_frees w p path leaf is =
       unless_moves w (writes.blocked_if_full w leaf.page.0 (is_full p.row leaf.body)) _ (by (is_full p.row leaf.body))
-      (put_plans w p path leaf (plan_of (here w) path p.row w.stock (w.clock.scalar + 1)) is)
+      (put_plans w p path leaf (plan_of (here w) path p.row w.stock (w.clock.scalar + 1)) (plan_has_none (here w) path p.row w.stock (w.clock.scalar + 1)) is)
     where
       by : (b : Bool) → Stops R w (writes.blocked_if_full w leaf.page.0 b)
       by false = tt
@@ -327,14 +339,20 @@ module _ {G : Work → List Tag → Type 0} {R : Work → Work → Type 0} (c : 
 
   -- ---- commit and abort
 
-  end_logs : (w : Work) (session : ℕ) (own : Own) (committed : Bool) (undone : List (List Record)) (count : ℕ) → length (undone ++ ends.end_of (txn_numbered w own.number) committed ∷ []) ≡ count
-      → fin.get w.sessions session ≡ Some own → R w (with_room w count (ends.ends session own committed (logs w (undone ++ ends.end_of (txn_numbered w own.number) committed ∷ [])))).work
-  end_logs w session own committed undone count is there = room_moves w count _ (λ room.
-      let groups : List (List Record) = undone ++ ends.end_of (txn_numbered w own.number) committed ∷ [] in
-      let last : EndsWith w (logs w groups).work.log (ends.end_of (txn_numbered w own.number) committed) = logs_end w undone (ends.end_of (txn_numbered w own.number) committed) in
-      c.both w (logs w groups).work _ (logs_moves w groups (subst (HasRoom w) (sym is) room))
-      (c.session (logs w groups).work session own (record own { progress = Ended committed (length (logs w groups).work.log.groups) })
-      (ap (λ (m : Sessions). fin.get m session) (logs_beside w groups).0 ∙ there) refl (end_at w (logs w groups).work.log own.number committed last)))
+  end_logs : (w : Work) (session : ℕ) (own : Own) (committed : Bool) (undone : List (List Record)) (count : ℕ) → length undone + 1 ≡ count → NoEnds undone → fin.get w.sessions session ≡ Some own
+      → is_at_end own.progress ≡ false → R w (with_room w count (ends.ends session own committed (logs w (undone ++ end_of (txn_numbered w own.number) committed ∷ [])))).work
+  end_logs w session own committed undone count is none there going = room_moves w count _ (λ room.
+      let u : Work = (logs w undone).work in
+      let both : HasRoom w (length undone + 1) = subst (HasRoom w) (sym is) room in
+      let first : R w u = logs_moves w undone none (record { numbers = omega (arith, both.numbers); stamps = omega (arith, both.stamps) }) in
+      let last : R u (ended_in u session own committed) = c.ends u session own committed (ap (λ (m : Sessions). fin.get m session) (logs_beside w undone).0 ∙ there) going (rooms_left w undone 1 both) in
+      subst (λ (x : Work). R w (with_session x session (record own { progress = Ended committed (length x.log.groups) }))) (sym (end_last w undone (end_of (txn_numbered w own.number) committed)))
+      (c.both w u _ first (as_ended u session own committed (end_of (txn_numbered w own.number) committed) (ap (λ (x : _). end_of (record { writer = x; number = own.number }) committed) (logs_writer w undone)) last)))
+    where
+      as_ended : (u : Work) (session : ℕ) (own : Own) (committed : Bool) (records : List Record) → end_of (txn_numbered u own.number) committed ≡ records → R u (ended_in u session own committed)
+          → R u (with_session (with_group u (next_group u records)) session (record own { progress = Ended committed (length (with_group u (next_group u records)).log.groups) }))
+      as_ended u session own committed records is last = subst (λ (rs : List Record). R u (with_session (with_group u (next_group u rs)) session (record own { progress = Ended committed (length (with_group u (next_group u rs)).log.groups) }))) is
+          (subst (λ (n : ℕ). R u (with_session (with_group u (next_group u (end_of (txn_numbered u own.number) committed))) session (record own { progress = Ended committed n }))) (sym (length-append u.log.groups _)) last)
 
   answers_move : (w : Work) (session : ℕ) (own : Own) (committed : Bool) (seq : ℕ) (over : Reply) → fin.get w.sessions session ≡ Some own → own.progress ≡ Ended committed seq
       → R w (ends.answers_end w session over (awaited w seq)).work
@@ -348,34 +366,35 @@ module _ {G : Work → List Tag → Type 0} {R : Work → Work → Type 0} (c : 
   commit_moves w session = session_moves w session _ (λ own is. by own is own.progress refl)
     where
       by : (own : Own) → fin.get w.sessions session ≡ Some own → (p : Progress) → own.progress ≡ p → R w (ends.commits w session own (txn_numbered w own.number) p).work
-      by own is Active at = end_logs w session own true [] 1 refl is
+      by own is Active at = end_logs w session own true [] 1 refl tt is (ap is_at_end at)
       by own is (Ended true seq) at = answers_move w session own true seq (reply.Committed (txn_numbered w own.number)) is at
       by own is (Ended false seq) at = c.none w
       by own is (Undoing left) at = c.none w
 
-  abort_with : (w : Work) (session : ℕ) (own : Own) (undone : List (List Record)) (left : List RowKey) → fin.get w.sessions session ≡ Some own
+  abort_with : (w : Work) (session : ℕ) (own : Own) (undone : List (List Record)) (left : List RowKey) → NoEnds undone → fin.get w.sessions session ≡ Some own → is_at_end own.progress ≡ false
       → R w (ends.aborts_with w session own (txn_numbered w own.number) undone left).work
-  abort_with w session own undone [] is = end_logs w session own false undone (length undone + 1) (length-append undone (ends.end_of (txn_numbered w own.number) false ∷ [])) is
-  abort_with w session own undone (k ∷ ks) is = room_moves w (length undone) _ (λ room.
-      c.both w (logs w undone).work _ (logs_moves w undone room)
-      (c.session (logs w undone).work session own (record own { progress = Undoing (k ∷ ks) }) (ap (λ (m : Sessions). fin.get m session) (logs_beside w undone).0 ∙ is) refl tt))
+  abort_with w session own undone [] none is going = end_logs w session own false undone (length undone + 1) refl none is going
+  abort_with w session own undone (k ∷ ks) none is going = room_moves w (length undone) _ (λ room.
+      c.both w (logs w undone).work _ (logs_moves w undone none room)
+      (c.session (logs w undone).work session own (k ∷ ks) (ap (λ (m : Sessions). fin.get m session) (logs_beside w undone).0 ∙ is) going))
 
-  abort_rows : (w : Work) (session : ℕ) (own : Own) (left : List RowKey) → fin.get w.sessions session ≡ Some own → R w (ends.aborts_rows w session own (txn_numbered w own.number) left).work
-  abort_rows w session own [] is = abort_with w session own [] [] is
-  abort_rows w session own (k ∷ ks) is =
+  abort_rows : (w : Work) (session : ℕ) (own : Own) (left : List RowKey) → fin.get w.sessions session ≡ Some own → is_at_end own.progress ≡ false
+      → R w (ends.aborts_rows w session own (txn_numbered w own.number) left).work
+  abort_rows w session own [] is going = abort_with w session own [] [] tt is going
+  abort_rows w session own (k ∷ ks) is going =
       let t : Txn = txn_numbered w own.number in
       found_moves w k.table k.key (λ used path leaf. ends.aborts_with used session own t (ends.undo leaf k.table k.key t) ks) (λ path leaf held.
-      abort_with (uses w path) session own (ends.undo leaf k.table k.key t) ks is)
+      abort_with (uses w path) session own (ends.undo leaf k.table k.key t) ks (undo_has_none leaf k.table k.key t) is going)
 
   pub abort_moves : (w : Work) (session : ℕ) → R w (ends.abort w session).work
   abort_moves w session = session_moves w session _ (λ own is. by own is own.progress refl)
     where
       by : (own : Own) → fin.get w.sessions session ≡ Some own → (p : Progress) → own.progress ≡ p → R w (ends.aborts w session own (txn_numbered w own.number) p).work
-      by own is Active at = abort_rows w session own (sets.items own.written) is
-      by own is (Undoing left) at = abort_rows w session own left is
+      by own is Active at = abort_rows w session own (sets.items own.written) is (ap is_at_end at)
+      by own is (Undoing left) at = abort_rows w session own left is (ap is_at_end at)
       by own is (Ended false seq) at = answers_move w session own false seq (reply.Aborted (txn_numbered w own.number)) is at
       by own is (Ended true seq) at = c.none w
 
   pub undo_moves : (w : Work) (table : ℕ) (key : List ℕ) (t : Txn) → R w (ends.undo_next w table key t).work
   undo_moves w table key t = found_moves w table key (λ used path leaf. ends.undoes (ends.undo leaf table key t) used) (λ path leaf held.
-      room_moves (uses w path) (length (ends.undo leaf table key t)) _ (λ room. logs_moves (uses w path) (ends.undo leaf table key t) room))
+      room_moves (uses w path) (length (ends.undo leaf table key t)) _ (λ room. logs_moves (uses w path) (ends.undo leaf table key t) (undo_has_none leaf table key t) room))

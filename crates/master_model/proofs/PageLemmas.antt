@@ -282,7 +282,7 @@ page_moves = record {
   hears_vector = λ w vector h f. f;
   acks = λ w store seq h f. f;
   acks_more = λ w store seq h f. f;
-  group = λ w records room f. f;
+  group = λ w records none room f. f;
   change = λ w r stamp page is f.
       leases_on w.leases (desk.changed w.leases page (record { 0 = stamp })) _ w.stock (has_changed w.leases page (record { 0 = stamp }))
       (images_new w.leases w.pool.images _ w.stock (λ h. had_redone w.leases w.pool.images r stamp (image_of page w.pool.images) (λ image at. found_had w.leases page w.pool.images image at h.0) h) f);
@@ -307,6 +307,7 @@ page_moves = record {
   begin = λ w session is f. f;
   tag = λ w session page key own is active held f. f;
   put = λ w p leaf path fresh count is some f. record { fresh = all_dropped (λ (p : Page). Has w.leases p.0) (length fresh) w.stock f.fresh; images_had = f.images_had; one_each = f.one_each };
-  session = λ w session old own is same goes f. f;
+  session = λ w session own left is going f. f;
+  ends = λ w session own committed is going room f. f;
   free = λ w session own committed seq is at durable f. f;
 }

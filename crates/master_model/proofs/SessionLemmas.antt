@@ -7,7 +7,7 @@ use Rattle.std.specs.FinMap as fin
 use Rattle.std.proofs.lemmas.Bool.Decides.{nat_tests}
 use Rattle.tm_data.specs.declared.image.Image.{Image}
 use Rattle.tm_data.specs.declared.log.Group.{Group}
-use Rattle.log_writer.specs.Log.{Log, acked, durable_seq}
+use Rattle.log_writer.specs.Log.{Log, acked, durable_seq, appended}
 use Rattle.master_model.specs.declared.session.Own.{Own}
 use Rattle.master_model.specs.declared.session.Progress.{Progress}
 use Rattle.master_model.specs.declared.session.Progress.TheVariants.{Active, Undoing, Ended}
@@ -15,7 +15,10 @@ use Rattle.master_model.specs.State.{Work, durable}
 use Rattle.master_model.specs.Leases.{with_images}
 use Rattle.master_model.specs.Goes.{LogGoes}
 use Rattle.master_model.specs.Facts.{EndIsDurable, Fits, HasEndAt, InSession, SessionFact, SessionFacts, Sessions, groups_of, own_txn}
-use Rattle.master_model.proofs.Moves.{Closed, GoesOn}
+use Rattle.master_model.specs.Logging.{next_group}
+use Rattle.master_model.specs.Ends.{end_of}
+use Rattle.master_model.proofs.LoggedLemmas.{end_at}
+use Rattle.master_model.proofs.Moves.{Closed}
 use Rattle.master_model.proofs.GoesLemmas.{log_acked, log_appended}
 
 abbrev Known : Work → Type 0
@@ -194,11 +197,6 @@ frees log begun session m own committed seq is at durable f = record {
             let one : s.own ≡ own = some_is s.own own (sym s.there ∙ (ap (λ (n : ℕ). fin.get m n) (same_at s.session session e) ∙ is)) in
             inr (subst (EndIsDurable log) (sym (ap (λ (o : Own). o.number) one) ∙ s.same) ends)
 
-goes_fits : (w : Work) (number : ℕ) (p : Progress) → GoesOn w number p → Fits w.log number p
-goes_fits w number Active h = absurd h
-goes_fits w number (Undoing left) h = tt
-goes_fits w number (Ended committed seq) h = h.0
-
 image_known : (w : Work) (o : Option (List Image)) → SessionMoves w (with_images w o)
 image_known w None f = f
 image_known w (Some images) f = f
@@ -211,7 +209,7 @@ session_facts = record {
   hears_vector = λ w vector h f. f;
   acks = λ w store seq h f. log_goes w.log (acked w.log store seq) w.begun w.sessions (log_acked w.log store seq) f;
   acks_more = λ w store seq h f. log_goes w.log (acked w.log store seq) w.begun w.sessions (log_acked w.log store seq) f;
-  group = λ w records room f. log_goes w.log _ w.begun w.sessions (log_appended w.log _) f;
+  group = λ w records none room f. log_goes w.log _ w.begun w.sessions (log_appended w.log _) f;
   change = λ w r stamp page is f. f;
   grant = λ w page epoch stamp tags vector new brought fits granted f. f;
   image = λ w image held same. image_known w _;
@@ -227,7 +225,10 @@ session_facts = record {
   begin = λ w session is f. begins w.log w.begun session w.sessions _ refl refl is f;
   tag = λ w session page key own is active held f. f;
   put = λ w p leaf path fresh count is some f. on_with w.log w.begun p.session w.sessions p.own _ is refl (f.each p.session p.own is).fits f;
-  session = λ w session old own is same goes f. on_with w.log w.begun session w.sessions old own is same (goes_fits w own.number own.progress goes) f;
+  session = λ w session own left is going f. on_with w.log w.begun session w.sessions own _ is refl tt f;
+  ends = λ w session own committed is going room f.
+      on_with (appended w.log _) w.begun session w.sessions own _ is refl (end_at w.log (next_group w (end_of (own_txn w.log own.number) committed)) (own_txn w.log own.number) committed refl).0
+      (log_goes w.log _ w.begun w.sessions (log_appended w.log _) f);
   free = λ w session own committed seq is at durable f. frees w.log w.begun session w.sessions own committed seq is at durable f;
 }
 

@@ -87,7 +87,7 @@ rest_moves = record {
   hears_vector = λ w vector h. rest_same w _ refl refl refl refl refl;
   acks = λ w store seq h. rest_same w _ refl refl refl refl refl;
   acks_more = λ w store seq h. rest_same w _ refl refl refl refl refl;
-  group = λ w records room. rest_same w _ refl refl refl refl refl;
+  group = λ w records none room. rest_same w _ refl refl refl refl refl;
   change = λ w r stamp page is. rest_same w _ refl refl refl refl refl;
   grant = λ w page epoch stamp tags vector new brought fits granted. rest_same w _ refl refl refl refl refl;
   image = λ w image held same. image_rest w _;
@@ -103,7 +103,8 @@ rest_moves = record {
   begin = λ w session is. record { number = refl; stores = refl; ends = λ t h. h; begun = omega arith; fresh = omega arith };
   tag = λ w session page key own is active held. rest_same w _ refl refl refl refl refl;
   put = λ w p leaf path fresh count is some. rest_same w _ refl refl refl refl refl;
-  session = λ w session old own is same goes. rest_same w _ refl refl refl refl refl;
+  session = λ w session own left is going. rest_same w _ refl refl refl refl refl;
+  ends = λ w session own committed is going room. rest_same w _ refl refl refl refl refl;
   free = λ w session own committed seq is at durable. rest_same w _ refl refl refl refl refl;
 }
 

@@ -200,7 +200,7 @@ module _ {G : Work → List Tag → Type 0} {R : Work → Work → Type 0} (c : 
       by false b d is_b is_d = c.none w
       by true false d is_b is_d = c.none w
       by true true false is_b is_d = c.none w
-      by true true true is_b is_d = group_moves c w (Beat ∷ []) (record { numbers = grind (arith, nat_tests); stamps = grind (arith, nat_tests) })
+      by true true true is_b is_d = group_moves c w (Beat ∷ []) refl (record { numbers = grind (arith, nat_tests); stamps = grind (arith, nat_tests) })
 
   -- ---- fates
 

@@ -25,6 +25,7 @@ use Rattle.master_model.specs.declared.session.Progress.TheVariants.{Active, Und
 use Rattle.master_model.specs.Tags.{PageTag, Tags, is_on, moved, moved_tag, page_tag, same_txn, with_tags, without_page, without_txn}
 use Rattle.master_model.specs.State.{Work, durable}
 use Rattle.master_model.specs.Fates.{has_ended, is_ended, is_over, is_own}
+use Rattle.master_model.specs.Logging.{next_group}
 use Rattle.master_model.specs.Reads.{txn_numbered}
 use Rattle.master_model.specs.Writes.{last_page, parted, parted_by, tags_after}
 use Rattle.master_model.specs.Ends.{end_of}
@@ -33,8 +34,8 @@ use Rattle.master_model.specs.Leases.{binding, with_images}
 use Rattle.master_model.specs.Facts.{Fits, Has, PageFacts, SessionFacts, Sessions, TagFacts, groups_in, groups_of, own_txn}
 use Rattle.master_model.proofs.GoesLemmas.{acked_is}
 use Rattle.master_model.proofs.LackLemmas.{all_taken}
-use Rattle.master_model.proofs.LoggedLemmas.{durable_appended}
-use Rattle.master_model.proofs.Moves.{Closed, GoesOn, with_ack_of, without_ended, begun_in}
+use Rattle.master_model.proofs.LoggedLemmas.{durable_appended, end_at}
+use Rattle.master_model.proofs.Moves.{Closed, with_ack_of, without_ended, begun_in}
 use Rattle.master_model.proofs.OpenLemmas.{OpenIn, open_in_is, open_is_in, open_unended, session_open, unended_open}
 use Rattle.master_model.proofs.PageLemmas.{has_changed, has_granted, has_others, has_recalled, has_released, held_had, page_moves}
 use Rattle.master_model.proofs.SessionLemmas.{gone_other, put_here, put_other, same_at, session_facts, some_is}
@@ -295,10 +296,8 @@ free_tags w session own is over f = record {
   binds = λ t at. unended_on w (record w { sessions = fin.remove w.sessions session }) t.txn (λ mine from most open_in. open_free w.sessions (durable w) session t.txn.number own is over (open_in most)) refl refl (f.binds t at);
 }
 
-goes_on : (w : Work) (number : ℕ) (p : Progress) → GoesOn w number p → is_over (durable w) p ≡ false
-goes_on w number Active h = absurd h
-goes_on w number (Undoing left) h = refl
-goes_on w number (Ended committed seq) h = let above : durable w < seq = h.1 in grind (arith, nat_tests)
+isnt_over : (most seq : ℕ) (committed : Bool) → most < seq → is_over most (Ended committed seq) ≡ false
+isnt_over most seq committed above = grind (arith, nat_tests)
 
 ended_over : (most seq : ℕ) (committed : Bool) (p : Progress) → p ≡ Ended committed seq → seq ≤ most → is_over most p ≡ true
 ended_over most seq committed p is below = ap (is_over most) is ∙ yes
@@ -350,9 +349,9 @@ tag_moves = record {
   hears_vector = λ w vector is h. (h.0, h.1, record { had = h.2.had; binds = h.2.binds });
   acks = λ w store seq is h. (h.0, session_facts.acks w store seq is h.1, acked_tags w store seq is h.2);
   acks_more = λ w store seq is h. (h.0, session_facts.acks_more w store seq is h.1, more_tags w store seq h.1 h.2);
-  group = λ w records room h. (
+  group = λ w records none room h. (
     h.0,
-    session_facts.group w records room h.1,
+    session_facts.group w records none room h.1,
     record { had = h.2.had; binds = λ t at. same_durable w (appended w.log _) t.txn refl (durable_appended w.log _) (h.2.binds t at) },
   );
   change = λ w r stamp page is h. (page_moves.change w r stamp page is h.0, h.1, record { had = λ t at. has_changed w.leases page (record { 0 = stamp }) t.page (h.2.had t at); binds = h.2.binds });
@@ -400,7 +399,16 @@ tag_moves = record {
         let moved_on = to_facts w (tags_after w.tags leaf path fresh) (after_stand w leaf path fresh had (stand_all w h.2)) in
         let last = session_tags (record w { tags = tags_after w.tags leaf path fresh }) p.session p.own _ is refl (λ k. k) moved_on in record { had = last.had; binds = last.binds },
   );
-  session = λ w session old own is same goes h. (h.0, session_facts.session w session old own is same goes h.1, session_tags w session old own is same (λ k. goes_on w own.number own.progress goes) h.2);
+  session = λ w session own left is going h. (h.0, session_facts.session w session own left is going h.1, session_tags w session own _ is refl (λ k. refl) h.2);
+  ends = λ w session own committed is going room h. (
+    h.0,
+    session_facts.ends w session own committed is going room h.1,
+    let g : Group = next_group w (end_of (own_txn w.log own.number) committed) in
+    let late = (end_at w.log g (own_txn w.log own.number) committed refl).1 in
+    let logged : TagFacts (record w { log = appended w.log g }) = record { had = h.2.had; binds = λ t at. same_durable w (appended w.log g) t.txn refl (durable_appended w.log g) (h.2.binds t at) } in
+    let last = session_tags (record w { log = appended w.log g }) session own _ is refl (λ k. isnt_over (durable_seq (appended w.log g).groups) (length w.log.groups + 1) committed late) logged in
+    record { had = last.had; binds = last.binds },
+  );
   free = λ w session own committed seq is at durable h. (
     h.0,
     session_facts.free w session own committed seq is at durable h.1,

@@ -168,6 +168,11 @@ Fits log number Active = Unit {0}
 Fits log number (Undoing left) = Unit {0}
 Fits log number (Ended committed seq) = HasEndAt (groups_of log) seq (own_txn log number) committed
 
+abbrev pub is_at_end : Progress → Bool
+is_at_end Active = false
+is_at_end (Undoing left) = false
+is_at_end (Ended committed seq) = true
+
 -- The number of a session's transaction is one that was begun.
 pub record SessionFact (log : Log) (begun : ℕ) (own : Own) : Type 0 where
   pub from_one : 1 ≤ own.number
