@@ -22,4 +22,5 @@ mod OpenLemmas
 mod TagSetLemmas
 mod TagLemmas
 mod BegunLemmas
+mod OnceLemmas
 mod EndedLemmas

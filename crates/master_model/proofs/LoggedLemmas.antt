@@ -1,9 +1,8 @@
 -- What is logged: what it leaves beside the log, and the end that comes last.
-use Rattle.std.proofs.Common.{◌≡◌, ◌<◌, ◌≤◌, ◌⊎◌, ◌+◌, ◌-◌, ℕ, Bool, true, false, List, [], ◌∷◌, ◌++◌, Option, Some, None, refl, ap, sym, ◌∙◌, cond, arith, inl, inr}
+use Rattle.std.proofs.Common.{◌≡◌, ◌<◌, ◌≤◌, ◌⊎◌, ◌+◌, ℕ, Bool, true, false, List, [], ◌∷◌, ◌++◌, Option, Some, None, refl, ap, sym, ◌∙◌, cond, arith, inl, inr}
 use Rattle.std.specs.Prelude.{nat_eq, length, slice_get}
 use Rattle.std.specs.List.{prefix_len}
 use Rattle.std.proofs.lemmas.Bool.Decides.{nat_tests}
-use Rattle.std.proofs.lemmas.List.{length-append}
 use Rattle.tm_data.specs.declared.image.Image.{Image}
 use Rattle.tm_data.specs.declared.log.Group.{Group}
 use Rattle.tm_data.specs.declared.log.Record.{Record}
@@ -23,7 +22,7 @@ use Rattle.master_model.specs.Paths as paths
 use Rattle.master_model.specs.Paths.{here, last_of}
 use Rattle.master_model.specs.Logging.{logs, next_group, with_change, with_changes, with_group}
 use Rattle.master_model.specs.Ends.{end_of}
-use Rattle.master_model.specs.Facts.{HasEndAt, groups_in, groups_of, own_txn}
+use Rattle.master_model.specs.Facts.{HasEndAt, groups_in, groups_of}
 
 -- ---- what it leaves
 

@@ -71,7 +71,7 @@ put_here m session own = grind (arith, nat_tests, gets)
 pub put_other : (m : Sessions) (session other : ℕ) (own : Own) → nat_eq other session ≡ false → fin.get (fin.insert m session own) other ≡ fin.get m other
 put_other m session other own not = grind (arith, nat_tests, gets)
 
-gone_here : (m : Sessions) (session : ℕ) → fin.get (fin.remove m session) session ≡ None
+pub gone_here : (m : Sessions) (session : ℕ) → fin.get (fin.remove m session) session ≡ None
 gone_here m session = grind (arith, nat_tests, gets)
 
 pub gone_other : (m : Sessions) (session other : ℕ) → nat_eq other session ≡ false → fin.get (fin.remove m session) other ≡ fin.get m other
@@ -88,7 +88,7 @@ pub data Found (m : Sessions) (session : ℕ) (own : Own) (other : ℕ) (x : Own
   Here : other ≡ session → x ≡ own → Found m session own other x
   There : fin.get m other ≡ Some x → nat_eq other session ≡ false → Found m session own other x
 
-found : (m : Sessions) (session : ℕ) (own : Own) (other : ℕ) (x : Own) → fin.get (fin.insert m session own) other ≡ Some x → Found m session own other x
+pub found : (m : Sessions) (session : ℕ) (own : Own) (other : ℕ) (x : Own) → fin.get (fin.insert m session own) other ≡ Some x → Found m session own other x
 found m session own other x is = by (nat_eq other session) refl
   where
     by : (b : Bool) → nat_eq other session ≡ b → Found m session own other x

@@ -404,10 +404,10 @@ tag_moves = record {
     h.0,
     session_facts.ends w session own committed is going room h.1,
     let g : Group = next_group w (end_of (own_txn w.log own.number) committed) in
-    let late = (end_at w.log g (own_txn w.log own.number) committed refl).1 in
-    let logged : TagFacts (record w { log = appended w.log g }) = record { had = h.2.had; binds = λ t at. same_durable w (appended w.log g) t.txn refl (durable_appended w.log g) (h.2.binds t at) } in
-    let last = session_tags (record w { log = appended w.log g }) session own _ is refl (λ k. isnt_over (durable_seq (appended w.log g).groups) (length w.log.groups + 1) committed late) logged in
-    record { had = last.had; binds = last.binds },
+        let late = (end_at w.log g (own_txn w.log own.number) committed refl).1 in
+        let logged : TagFacts (record w { log = appended w.log g }) = record { had = h.2.had; binds = λ t at. same_durable w (appended w.log g) t.txn refl (durable_appended w.log g) (h.2.binds t at) } in
+        let last = session_tags (record w { log = appended w.log g }) session own _ is refl (λ k. isnt_over (durable_seq (appended w.log g).groups) (length w.log.groups + 1) committed late) logged in
+        record { had = last.had; binds = last.binds },
   );
   free = λ w session own committed seq is at durable h. (
     h.0,

@@ -1,5 +1,5 @@
 -- What holds of a master in every state: of its log, its clock, its pages, its leases, its sessions and its tags.
-use Rattle.std.specs.Prelude.{◌≡◌, ◌<◌, ◌≤◌, ◌⊎◌, ℕ, ◌+◌, ◌-◌, ◌^◌, Bool, true, false, List, [], ◌∷◌, map, length, max, is_some, slice_get}
+use Rattle.std.specs.Prelude.{◌≡◌, ◌<◌, ◌≤◌, ◌⊎◌, ℕ, ◌+◌, ◌-◌, ◌^◌, Bool, true, false, List, [], ◌∷◌, ◌++◌, map, length, max, is_some, slice_get}
 use Rattle.std.specs.List.{AllByRecursion}
 use Rattle.std.specs.Ordering.{nat_cmp}
 use Rattle.std.specs.FinMap.{FinMap}
@@ -11,6 +11,7 @@ use Rattle.tm_data.specs.declared.image.Image.{Image}
 use Rattle.tm_data.specs.declared.log.Group.{Group}
 use Rattle.tm_data.specs.declared.transaction.Page.{Page}
 use Rattle.tm_data.specs.declared.transaction.Txn.{Txn}
+use Rattle.tm_data.specs.declared.transaction.Writer.{Writer}
 use Rattle.tm_data.specs.declared.vector.VectorEntry.{VectorEntry}
 use Rattle.tm_data.specs.Vectors.{IsVector, greatest, stamp_of}
 use Rattle.tm_base.specs.declared.message.Message.{Message}
@@ -30,9 +31,10 @@ use Rattle.master_model.specs.declared.left.Left.{Left}
 use Rattle.master_model.specs.declared.session.Own.{Own}
 use Rattle.master_model.specs.declared.session.Progress.{Progress}
 use Rattle.master_model.specs.declared.session.Progress.TheVariants.{Active, Undoing, Ended}
-use Rattle.master_model.specs.Tags.{PageTag}
+use Rattle.master_model.specs.Tags.{PageTag, same_txn}
 use Rattle.master_model.specs.Fates.{is_ended, is_own}
 use Rattle.master_model.specs.Ends.{end_of}
+use Rattle.master_model.specs.Acks.{ends_in}
 use Rattle.master_model.specs.State.{Work, Life, State}
 
 -- ---- what a message brings
@@ -202,6 +204,35 @@ pub record SessionFacts (log : Log) (begun : ℕ) (sessions : Sessions) : Type 0
   -- a transaction that was begun is a session's, or its end is durable
   pub known : (number : ℕ) → 1 ≤ number → number ≤ begun → InSession sessions number ⊎ EndIsDurable log number
 
+-- ---- ends
+
+-- The ends that some groups have, in order: of which transactions, and whether each is committed.
+abbrev pub all_ends : List Group → List (Txn × Bool)
+all_ends [] = []
+all_ends (g ∷ gs) = ends_in g.records ++ all_ends gs
+
+-- None of some ends is a transaction's.
+abbrev pub HasNoEnd : List (Txn × Bool) → Txn → Type 0
+HasNoEnd ends t = AllByRecursion (λ (e : Txn × Bool). same_txn t e.0 ≡ false) ends
+
+-- No two of them are of one transaction.
+abbrev pub EndOnce : List (Txn × Bool) → Type 0
+EndOnce [] = Unit {0}
+EndOnce (e ∷ es) = HasNoEnd es e.0 × EndOnce es
+
+-- A writer's transaction that was begun.
+pub record IsOf (writer : Writer) (begun : ℕ) (t : Txn) : Type 0 where
+  pub own : t.writer ≡ writer
+  pub from_one : 1 ≤ t.number
+  pub most : t.number ≤ begun
+
+-- The ends in a writer's log are of its own transactions, one of each at most, and of none that still reads, writes or
+-- undoes its rows.
+pub record EndFacts (ends : List (Txn × Bool)) (writer : Writer) (begun : ℕ) (sessions : Sessions) : Type 0 where
+  pub own : AllByRecursion (λ (e : Txn × Bool). IsOf writer begun e.0) ends
+  pub once : EndOnce ends
+  pub none : (session : ℕ) (own : Own) → fin.get sessions session ≡ Some own → is_at_end own.progress ≡ false → HasNoEnd ends (record { writer = writer; number = own.number })
+
 -- ---- shared locks
 
 -- Each tag stands on a page that is held or recalled, and is of a transaction that isn't known to have ended.
@@ -218,6 +249,7 @@ pub record WorkFacts (start : ℕ) (w : Work) : Type 0 where
   pub of_leases : LeaseFacts w.leases w.left
   pub of_sessions : SessionFacts w.log w.begun w.sessions
   pub of_tags : TagFacts w
+  pub of_ends : EndFacts (all_ends (groups_of w.log)) w.log.writer w.begun w.sessions
 
 -- Of a master that has joined, with a writer that began at a stamp.
 abbrev pub LifeFacts : ℕ → Option Life → Type 0

@@ -36,7 +36,8 @@ pub fn facts_hold_at_the_start()
 /// page has two images; of exactly the pages that are being given back there is what was told, with the epoch and the
 /// stamp of the lease. Each session's transaction was begun, no two sessions have one, and one that has ended has its
 /// end in the log, with its outcome, at the number that is kept of it; a transaction that was begun is a session's, or
-/// its end is durable. Each shared lock stands on a page that is held or recalled, and is of a transaction that isn't
+/// its end is durable; the ends in the log are of own transactions that were begun, one of each at most, and of none
+/// that still reads, writes or undoes its rows. Each shared lock stands on a page that is held or recalled, and is of a transaction that isn't
 /// known to have ended. Refused are a Beat that has the scalar itself as its stamp, a vector that is heard with its
 /// own entry, a page that is given back and keeps its image, its locks or its place among the fresh ones, a grant that
 /// takes the locks of ended transactions, and an acknowledgement that leaves those of the ends that become durable.
@@ -46,8 +47,8 @@ pub fn a_message_keeps_the_facts()
 
 /// And after each command. Refused is a command whose second group has the number or the stamp of its first, one
 /// that tells twice what was heard once and leaves out what was heard since, an abort that keeps the number of its
-/// undone row's group as that of its end, a begin that gives out a number once more, and a split that leaves a lock on
-/// a page that isn't here.
+/// undone row's group as that of its end, a begin that gives out a number once more, a
+/// commit that logs its end again when it is asked again, and a split that leaves a lock on a page that isn't here.
 pub fn a_command_keeps_the_facts()
     ensures { (begun : ℕ) (s : State) (session : ℕ) (asked : Command) → Facts begun s → Facts begun (on_command s session asked).0 }
 {}
