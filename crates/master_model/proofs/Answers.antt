@@ -1,6 +1,6 @@
 -- What the commands answer, leaf by leaf. A relation between what a writer has and an answer that holds of each leaf
 -- holds of every answer.
-use Rattle.std.proofs.Common.{◌≡◌, ◌+◌, ◌-◌, ◌^◌, ℕ, Bool, true, false, List, [], ◌∷◌, ◌++◌, Option, Some, None, Result, Ok, Err, refl, sym, subst, arith, ◌≤◌, ◌∙◌, cond, ap}
+use Rattle.std.proofs.Common.{◌≡◌, ◌+◌, ◌-◌, ◌^◌, ℕ, Bool, true, false, List, [], ◌∷◌, ◌++◌, Option, Some, None, Result, Ok, Err, refl, sym, subst, arith, ◌≤◌}
 use Rattle.std.specs.Prelude.{nat_lt, nat_le, length, take}
 use Rattle.std.specs.FinMap as fin
 use Rattle.std.specs.FinSet as sets
@@ -22,12 +22,6 @@ use Rattle.master_model.specs.declared.session.Own.{Own}
 use Rattle.master_model.specs.declared.session.Progress.{Progress}
 use Rattle.master_model.specs.declared.session.Progress.TheVariants.{Active, Undoing, Ended}
 use Rattle.master_model.specs.Tags.{same_txn, takes, with_tag, others_on, foreign_on}
-use Rattle.log_writer.specs.declared.acks.Acks.{Acks}
-use Rattle.log_writer.specs.declared.logged.Logged.{Logged}
-use Rattle.log_writer.specs.Acks.{has_all, least_lacking}
-use Rattle.log_writer.specs.Log.{durable_seq, lacking, lacking_of}
-use Rattle.std.specs.Prelude.{suc, slice_get, ◌&&◌, nat_eq}
-use Rattle.std.specs.List.{prefix_len}
 use Rattle.master_model.specs.State.{Work, Answer, answers, durable, says, to_locks}
 use Rattle.master_model.specs.Fates as fates
 use Rattle.master_model.specs.Fates.{Standing, Free, Locks, Unknown, named, unless, or_later}
@@ -40,6 +34,7 @@ use Rattle.master_model.specs.Writes as writes
 use Rattle.master_model.specs.Writes.{Put, put_logged}
 use Rattle.master_model.specs.Ends as ends
 use Rattle.master_model.specs.Ends.{Awaited, awaited, free}
+use Rattle.master_model.proofs.AwaitedLemmas.{none_awaited}
 use Rattle.master_model.proofs.Moves.{HasRoom, begun_in}
 
 -- The replies of a refusal, or of what is awaited.
@@ -83,53 +78,6 @@ pub record Answered (session : ℕ) (P : Work → Answer → Type 0) : Type 0 wh
 abbrev IfSays : (Work → Answer → Type 0) → Work → Option Answer → Type 0
 IfSays P w None = Unit {0}
 IfSays P w (Some a) = P w a
-
--- Where nothing is awaited of a group it is durable.
-stops : (p : Logged → Bool) (ls : List Logged) (l : Logged) → slice_get ls (prefix_len p ls) ≡ Some l → p l ≡ false
-stops p [] l is = absurd (cc is)
-stops p (x ∷ ls) l is = by (p x) refl is (stops p ls l)
-  where
-    by : (b : Bool) → p x ≡ b → slice_get (x ∷ ls) (cond b (1 + prefix_len p ls) 0) ≡ Some l → (slice_get ls (prefix_len p ls) ≡ Some l → p l ≡ false) → p l ≡ false
-    by false at k rest = let one : x ≡ l = cc k in ap p (sym one) ∙ at
-    by true at k rest = rest (ap (λ (n : ℕ). slice_get (x ∷ ls) n) (suc_is (prefix_len p ls)) ∙ k)
-      where
-        suc_is : (n : ℕ) → suc n ≡ 1 + n
-        suc_is n = omega arith
-
-none_lacks : (acks : Acks) → has_all acks ≡ false → least_lacking acks.first acks.second acks.third ≡ None → ⊥
-none_lacks acks h k = by acks.first acks.second acks.third h k
-  where
-    by : (a b d : Bool) → (a && (b && d)) ≡ false → least_lacking a b d ≡ None → ⊥
-    by true true true h k = cc h
-    by true true false h k = cc k
-    by true false d h k = cc k
-    by false b d h k = cc k
-
-next_lacks : (ls : List Logged) → lacking ls (durable_seq ls + 1) ≡ None → ⊥
-next_lacks ls none = by (slice_get ls (durable_seq ls)) refl (same (nat_eq (durable_seq ls + 1) 0) refl none)
-  where
-    same : (b : Bool) → nat_eq (durable_seq ls + 1) 0 ≡ b → lacking_of (cond b None (slice_get ls (durable_seq ls + 1 - 1))) ≡ None → lacking_of (slice_get ls (durable_seq ls)) ≡ None
-    same true is h = absurd (cc h)
-    same false is h = let one : durable_seq ls ≡ durable_seq ls + 1 - 1 = omega arith in ap (λ (n : ℕ). lacking_of (slice_get ls n)) one ∙ h
-
-    by : (o : Option Logged) → slice_get ls (durable_seq ls) ≡ o → lacking_of o ≡ None → ⊥
-    by None is h = cc h
-    by (Some l) is h = none_lacks l.acks (stops (λ x. has_all x.acks) ls l is) h
-
-none_awaited : (w : Work) (seq : ℕ) → awaited w seq ≡ None → seq ≤ durable w
-none_awaited w seq is = by (nat_le seq (durable w)) refl is
-  where
-    next : (o : Option ℕ) → lacking w.log.groups (durable w + 1) ≡ o → ends.awaited_next (durable w + 1) o ≡ None → ⊥
-    next None lacks h = next_lacks w.log.groups lacks
-    next (Some store) lacks h = cc h
-
-    own : (o : Option ℕ) → ends.awaited_own w seq o ≡ None → ⊥
-    own None h = next (lacking w.log.groups (durable w + 1)) refl h
-    own (Some store) h = cc h
-
-    by : (b : Bool) → nat_le seq (durable w) ≡ b → ends.awaited_if w seq b ≡ None → seq ≤ durable w
-    by true at h = grind (arith, nat_tests)
-    by false at h = absurd (own (lacking w.log.groups seq) h)
 
 module _ {session : ℕ} {P : Work → Answer → Type 0} (c : Answered session P) where
   room_says : (w : Work) (count : ℕ) (a : Answer) → (HasRoom w count → P w a) → P w (with_room w count a)

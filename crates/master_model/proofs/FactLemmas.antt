@@ -169,11 +169,11 @@ front_moves start = record {
   hears_vector = λ w vector brought. front_vector start w.log w.clock vector brought;
   acks = λ w store seq is. front_acked start w.log w.clock store seq;
   acks_more = λ w store seq is. front_acked start w.log w.clock store seq;
-  group = λ w records room. front_group start w records room;
+  group = λ w records none room. front_group start w records room;
   change = λ w r stamp page is h. h;
-  grant = λ w page epoch stamp tags vector new brought fits h.
+  grant = λ w page epoch stamp tags vector new brought fits granted h.
       front_vector start w.log (clock.heard_scalar w.clock stamp.0) vector brought (front_scalar start w.log w.clock stamp.0 fits h);
-  image = λ w image held. image_front start w _;
+  image = λ w image held same. image_front start w _;
   fresh_page = λ w page is h. h;
   fresh_none = λ w h. h;
   recall = λ w page epoch h. h;
@@ -184,10 +184,11 @@ front_moves start = record {
   mark = λ w t is known h. h;
   name = λ w t h. h;
   begin = λ w session is h. h;
-  tag = λ w page key number h. h;
-  put = λ w p leaf path fresh h. h;
-  session = λ w session own h. h;
-  free = λ w session h. h;
+  tag = λ w session page key own is active held h. h;
+  put = λ w p leaf path fresh count is some h. h;
+  session = λ w session own left is going h. h;
+  ends = λ w session own committed is going room. front_group start w _ room;
+  free = λ w session own committed seq is at durable h. h;
 }
 
 -- A writer that has just joined.

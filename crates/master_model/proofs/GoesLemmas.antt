@@ -117,7 +117,7 @@ acked_is groups store seq = by (nat_eq seq 0) (slice_get groups (seq - 1)) refl
           durable = set_prefix (λ l. has_all l.acks) groups (seq - 1) l new is (all_kept l.acks store);
         }
 
-log_acked : (log : Log) (store seq : ℕ) → LogGoes log (acked log store seq)
+pub log_acked : (log : Log) (store seq : ℕ) → LogGoes log (acked log store seq)
 log_acked log store seq =
     let a = acked_is log.groups store seq in
     record { writer = refl; groups = ([], a.same ∙ sym (append-nil (groups_of log))); marks = a.marks; durable = a.durable }
@@ -139,7 +139,7 @@ push_prefix p (x ∷ ls) l = by (p x) (push_prefix p ls l)
     by true h = omega (arith, h)
     by false h = omega arith
 
-log_appended : (log : Log) (g : Group) → LogGoes log (appended log g)
+pub log_appended : (log : Log) (g : Group) → LogGoes log (appended log g)
 log_appended log g =
     let l : Logged = record { group = g; acks = no_acks } in
     record {
@@ -161,10 +161,10 @@ log_moves = record {
   hears_vector = λ w vector h. log_stays w.log;
   acks = λ w store seq h. log_acked w.log store seq;
   acks_more = λ w store seq h. log_acked w.log store seq;
-  group = λ w records room. log_appended w.log _;
+  group = λ w records none room. log_appended w.log _;
   change = λ w r stamp page is. log_stays w.log;
-  grant = λ w page epoch stamp tags vector new brought fits. log_stays w.log;
-  image = λ w image held. image_log w _;
+  grant = λ w page epoch stamp tags vector new brought fits granted. log_stays w.log;
+  image = λ w image held same. image_log w _;
   fresh_page = λ w page is. log_stays w.log;
   fresh_none = λ w. log_stays w.log;
   recall = λ w page epoch. log_stays w.log;
@@ -175,10 +175,11 @@ log_moves = record {
   mark = λ w t is known. log_stays w.log;
   name = λ w t. log_stays w.log;
   begin = λ w session is. log_stays w.log;
-  tag = λ w page key number. log_stays w.log;
-  put = λ w p leaf path fresh. log_stays w.log;
-  session = λ w session own. log_stays w.log;
-  free = λ w session. log_stays w.log;
+  tag = λ w session page key own is active held. log_stays w.log;
+  put = λ w p leaf path fresh count is some. log_stays w.log;
+  session = λ w session own left is going. log_stays w.log;
+  ends = λ w session own committed is going room. log_appended w.log _;
+  free = λ w session own committed seq is at durable. log_stays w.log;
 }
 
 -- ---- the clock
@@ -223,12 +224,12 @@ clock_moves = record {
   hears_vector = λ w vector h. vector_heard w.clock vector h.0;
   acks = λ w store seq h. clock_still w.clock;
   acks_more = λ w store seq h. clock_still w.clock;
-  group = λ w records room. group_ticked w.clock;
+  group = λ w records none room. group_ticked w.clock;
   change = λ w r stamp page is. clock_still w.clock;
-  grant = λ w page epoch stamp tags vector new brought fits.
+  grant = λ w page epoch stamp tags vector new brought fits granted.
       clock_moves_both w.clock (clock.heard_scalar w.clock stamp.0) (clock.heard_vector (clock.heard_scalar w.clock stamp.0) vector) (stamp_heard w.clock stamp.0)
       (vector_heard (clock.heard_scalar w.clock stamp.0) vector brought.0);
-  image = λ w image held. image_clock w _;
+  image = λ w image held same. image_clock w _;
   fresh_page = λ w page is. clock_still w.clock;
   fresh_none = λ w. clock_still w.clock;
   recall = λ w page epoch. clock_still w.clock;
@@ -239,10 +240,11 @@ clock_moves = record {
   mark = λ w t is known. clock_still w.clock;
   name = λ w t. clock_still w.clock;
   begin = λ w session is. clock_still w.clock;
-  tag = λ w page key number. clock_still w.clock;
-  put = λ w p leaf path fresh. clock_still w.clock;
-  session = λ w session own. clock_still w.clock;
-  free = λ w session. clock_still w.clock;
+  tag = λ w session page key own is active held. clock_still w.clock;
+  put = λ w p leaf path fresh count is some. clock_still w.clock;
+  session = λ w session own left is going. clock_still w.clock;
+  ends = λ w session own committed is going room. group_ticked w.clock;
+  free = λ w session own committed seq is at durable. clock_still w.clock;
 }
 
 -- ---- epochs
@@ -312,10 +314,10 @@ epoch_moves = record {
   hears_vector = λ w vector h. epochs_stay w.leases;
   acks = λ w store seq h. epochs_stay w.leases;
   acks_more = λ w store seq h. epochs_stay w.leases;
-  group = λ w records room. epochs_stay w.leases;
+  group = λ w records none room. epochs_stay w.leases;
   change = λ w r stamp page is. epochs_changed w.leases page (record { 0 = stamp });
-  grant = λ w page epoch stamp tags vector new brought fits. epochs_granted w.leases page.0 epoch stamp;
-  image = λ w image held. image_epochs w _;
+  grant = λ w page epoch stamp tags vector new brought fits granted. epochs_granted w.leases page.0 epoch stamp;
+  image = λ w image held same. image_epochs w _;
   fresh_page = λ w page is. epochs_granted w.leases page.0 1 (record { 0 = 0 });
   fresh_none = λ w. epochs_stay w.leases;
   recall = λ w page epoch. epochs_recalled w.leases page epoch;
@@ -326,8 +328,9 @@ epoch_moves = record {
   mark = λ w t is known. epochs_stay w.leases;
   name = λ w t. epochs_stay w.leases;
   begin = λ w session is. epochs_stay w.leases;
-  tag = λ w page key number. epochs_stay w.leases;
-  put = λ w p leaf path fresh. epochs_stay w.leases;
-  session = λ w session own. epochs_stay w.leases;
-  free = λ w session. epochs_stay w.leases;
+  tag = λ w session page key own is active held. epochs_stay w.leases;
+  put = λ w p leaf path fresh count is some. epochs_stay w.leases;
+  session = λ w session own left is going. epochs_stay w.leases;
+  ends = λ w session own committed is going room. epochs_stay w.leases;
+  free = λ w session own committed seq is at durable. epochs_stay w.leases;
 }

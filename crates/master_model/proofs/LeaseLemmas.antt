@@ -204,10 +204,10 @@ lease_moves = record {
   hears_vector = λ w vector h f. f;
   acks = λ w store seq h f. f;
   acks_more = λ w store seq h f. f;
-  group = λ w records room f. f;
+  group = λ w records none room f. f;
   change = λ w r stamp page is f. facts_changed w.leases w.left page (record { 0 = stamp }) f;
-  grant = λ w page epoch stamp tags vector new brought fits f. facts_granted w.leases w.left page.0 epoch stamp new f;
-  image = λ w image held. image_leases w _;
+  grant = λ w page epoch stamp tags vector new brought fits granted f. facts_granted w.leases w.left page.0 epoch stamp new f;
+  image = λ w image held same. image_leases w _;
   fresh_page = λ w page is f. facts_fresh w.leases w.left page.0 (second_of_two (nat_lt 1024 page.0) (nat_eq (lease_of w.leases page.0).epoch 0) is) f;
   fresh_none = λ w f. f;
   recall = λ w page epoch f. facts_recalled w.leases w.left page epoch f;
@@ -218,10 +218,11 @@ lease_moves = record {
   mark = λ w t is known f. f;
   name = λ w t f. f;
   begin = λ w session is f. f;
-  tag = λ w page key number f. f;
-  put = λ w p leaf path fresh f. f;
-  session = λ w session own f. f;
-  free = λ w session f. f;
+  tag = λ w session page key own is active held f. f;
+  put = λ w p leaf path fresh count is some f. f;
+  session = λ w session own left is going f. f;
+  ends = λ w session own committed is going room f. f;
+  free = λ w session own committed seq is at durable f. f;
 }
 
 abbrev no_lease : Leases

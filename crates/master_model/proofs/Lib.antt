@@ -1,10 +1,15 @@
+mod AwaitedLemmas
+mod LoggedLemmas
+mod PlanLemmas
 mod Moves
 mod StepMoves
 mod GoesLemmas
+mod LackLemmas
 mod StepGoes
 mod FactLemmas
 mod PageLemmas
 mod LeaseLemmas
+mod SessionLemmas
 mod StepFacts
 mod Answers
 mod ToldLemmas
@@ -13,3 +18,9 @@ mod NoteTold
 mod ReplyLemmas
 mod QuietLemmas
 mod EndLemmas
+mod OpenLemmas
+mod TagSetLemmas
+mod TagLemmas
+mod BegunLemmas
+mod OnceLemmas
+mod EndedLemmas

@@ -53,7 +53,7 @@ has_recalled m page epoch = by (fin.get m page)
     by None = λ q h. h
     by (Some l) = has_set m page (record l { state = lease.Recalled }) (is_held l.state && nat_eq l.epoch epoch) (λ b h. refl)
 
-held_had : (s : Lease) → is_held s ≡ true → is_had s ≡ true
+pub held_had : (s : Lease) → is_held s ≡ true → is_had s ≡ true
 held_had lease.Held h = refl
 held_had lease.None h = absurd (cc h)
 held_had lease.Recalled h = absurd (cc h)
@@ -282,12 +282,12 @@ page_moves = record {
   hears_vector = λ w vector h f. f;
   acks = λ w store seq h f. f;
   acks_more = λ w store seq h f. f;
-  group = λ w records room f. f;
+  group = λ w records none room f. f;
   change = λ w r stamp page is f.
       leases_on w.leases (desk.changed w.leases page (record { 0 = stamp })) _ w.stock (has_changed w.leases page (record { 0 = stamp }))
       (images_new w.leases w.pool.images _ w.stock (λ h. had_redone w.leases w.pool.images r stamp (image_of page w.pool.images) (λ image at. found_had w.leases page w.pool.images image at h.0) h) f);
-  grant = λ w page epoch stamp tags vector new brought fits f. leases_on w.leases (desk.granted w.leases page.0 epoch stamp) w.pool.images w.stock (has_granted w.leases page.0 epoch stamp) f;
-  image = λ w image held. page_image w image _ (held_had (lease_of w.leases image.page.0).state held) _ refl;
+  grant = λ w page epoch stamp tags vector new brought fits granted f. leases_on w.leases (desk.granted w.leases page.0 epoch stamp) w.pool.images w.stock (has_granted w.leases page.0 epoch stamp) f;
+  image = λ w image held same. page_image w image _ (held_had (lease_of w.leases image.page.0).state held) _ refl;
   fresh_page = λ w page is f.
       let more = leases_on w.leases (desk.granted w.leases page.0 1 (record { 0 = 0 })) w.pool.images w.stock (has_granted w.leases page.0 1 (record { 0 = 0 })) f in
       record {
@@ -305,8 +305,9 @@ page_moves = record {
   mark = λ w t is known f. f;
   name = λ w t f. f;
   begin = λ w session is f. f;
-  tag = λ w page key number f. f;
-  put = λ w p leaf path fresh f. record { fresh = all_dropped (λ (p : Page). Has w.leases p.0) (length fresh) w.stock f.fresh; images_had = f.images_had; one_each = f.one_each };
-  session = λ w session own f. f;
-  free = λ w session f. f;
+  tag = λ w session page key own is active held f. f;
+  put = λ w p leaf path fresh count is some f. record { fresh = all_dropped (λ (p : Page). Has w.leases p.0) (length fresh) w.stock f.fresh; images_had = f.images_had; one_each = f.one_each };
+  session = λ w session own left is going f. f;
+  ends = λ w session own committed is going room f. f;
+  free = λ w session own committed seq is at durable f. f;
 }

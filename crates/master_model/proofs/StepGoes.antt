@@ -87,10 +87,10 @@ rest_moves = record {
   hears_vector = λ w vector h. rest_same w _ refl refl refl refl refl;
   acks = λ w store seq h. rest_same w _ refl refl refl refl refl;
   acks_more = λ w store seq h. rest_same w _ refl refl refl refl refl;
-  group = λ w records room. rest_same w _ refl refl refl refl refl;
+  group = λ w records none room. rest_same w _ refl refl refl refl refl;
   change = λ w r stamp page is. rest_same w _ refl refl refl refl refl;
-  grant = λ w page epoch stamp tags vector new brought fits. rest_same w _ refl refl refl refl refl;
-  image = λ w image held. image_rest w _;
+  grant = λ w page epoch stamp tags vector new brought fits granted. rest_same w _ refl refl refl refl refl;
+  image = λ w image held same. image_rest w _;
   fresh_page = λ w page is. record { number = refl; stores = refl; ends = λ t h. h; begun = omega arith; fresh = omega arith };
   fresh_none = λ w. record { number = refl; stores = refl; ends = λ t h. h; begun = omega arith; fresh = omega arith };
   recall = λ w page epoch. rest_same w _ refl refl refl refl refl;
@@ -101,10 +101,11 @@ rest_moves = record {
   mark = λ w t is known. rest_same w _ refl refl refl refl refl;
   name = λ w t. rest_same w _ refl refl refl refl refl;
   begin = λ w session is. record { number = refl; stores = refl; ends = λ t h. h; begun = omega arith; fresh = omega arith };
-  tag = λ w page key number. rest_same w _ refl refl refl refl refl;
-  put = λ w p leaf path fresh. rest_same w _ refl refl refl refl refl;
-  session = λ w session own. rest_same w _ refl refl refl refl refl;
-  free = λ w session. rest_same w _ refl refl refl refl refl;
+  tag = λ w session page key own is active held. rest_same w _ refl refl refl refl refl;
+  put = λ w p leaf path fresh count is some. rest_same w _ refl refl refl refl refl;
+  session = λ w session own left is going. rest_same w _ refl refl refl refl refl;
+  ends = λ w session own committed is going room. rest_same w _ refl refl refl refl refl;
+  free = λ w session own committed seq is at durable. rest_same w _ refl refl refl refl refl;
 }
 
 work_goes : (a b : Work) → LogGoes a.log b.log → ClockGoes a.clock b.clock → EpochsGo a.leases b.leases → RestGoes a b → WorkGoes a b

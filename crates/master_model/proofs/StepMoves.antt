@@ -47,7 +47,7 @@ use Rattle.master_model.specs.Recovery as recovery
 use Rattle.master_model.specs.Recovery.{LifeEffect, LifeAnswer, WrittenRow, hears_group, hears_groups, in_turn, is_next}
 use Rattle.master_model.specs.Step as does
 use Rattle.master_model.specs.Facts.{Brought, BringsNote, GroupBrought}
-use Rattle.master_model.proofs.Moves.{Closed, with_ack_of, without_ended, fresh_taken, group_moves, begin_moves, get_moves, put_moves, commit_moves, abort_moves, undo_moves}
+use Rattle.master_model.proofs.Moves.{AnyTags, Closed, ClosedFor, with_ack_of, without_ended, fresh_taken, group_moves, begin_moves, get_moves, put_moves, commit_moves, abort_moves, undo_moves}
 
 -- What is heard of a group is a vector.
 single_most : (writer stamp w most : ℕ) → stamp ≤ most → stamp_of (single writer stamp) w ≤ most
@@ -82,11 +82,26 @@ granted_held m page epoch stamp is = ap (λ (b : Bool). is_held (lease_of (set_i
     set_here : (m : Leases) (page : ℕ) (new : PageLease) → is_held (lease_of (fin.insert m page new) page).state ≡ is_held new.state
     set_here m page new = grind (arith, nat_tests, gets)
 
+-- Its stamp is the grant's.
+granted_stamp : (m : Leases) (page epoch : ℕ) (stamp : Stamp) → nat_lt (lease_of m page).epoch epoch ≡ true → stamp.0 ≡ 0 → 0 ≡ (lease_of (granted m page epoch stamp) page).stamp.0
+granted_stamp m page epoch stamp is zero_is = sym (ap (λ (b : Bool). (lease_of (set_if m page l b) page).stamp.0) is ∙ (set_here m page l ∙ zero_is))
+  where
+    l : PageLease
+    l = record { epoch = epoch; state = lease.Held; stamp = stamp }
+
+    set_here : (m : Leases) (page : ℕ) (new : PageLease) → (lease_of (fin.insert m page new) page).stamp.0 ≡ new.stamp.0
+    set_here m page new = grind (arith, nat_tests, gets)
+
 pub fresh_rises : (a : Bool) (epoch : ℕ) → a && nat_eq epoch 0 ≡ true → nat_lt epoch 1 ≡ true
 fresh_rises true epoch is = grind (arith, nat_tests)
 fresh_rises false epoch is = absurd (cc is)
 
-module _ {R : Work → Work → Type 0} (c : Closed R) where
+-- The tags that a message brings as a grant.
+abbrev pub Grants : (Work → List Tag → Type 0) → Work → Note → Type 0
+Grants G w (note.Grant writer page epoch of tags vector) = G w tags
+Grants G w other = Unit {0}
+
+module _ {G : Work → List Tag → Type 0} {R : Work → Work → Type 0} (c : ClosedFor G R) where
   -- ---- pages
 
   ready_moves : (w : Work) (page : ℕ) → R w (leases.releases_ready w page).0
@@ -103,26 +118,27 @@ module _ {R : Work → Work → Type 0} (c : Closed R) where
       c.both w one (leases.releases_all ps one).0 (ready_moves w p) (all_move ps one)
 
   grant_moves : (w : Work) (page : Page) (epoch : ℕ) (stamp : Stamp) (tags : List Tag) (vector : List VectorEntry) → Brought vector → stamp.0 ≤ 2 ^ 63 - 1
-      → R w (leases.on_grant w page epoch stamp tags vector).0
-  grant_moves w page epoch stamp tags vector brought fits = by (nat_lt (lease_of w.leases page.0).epoch epoch) refl
+      → G w tags → R w (leases.on_grant w page epoch stamp tags vector).0
+  grant_moves w page epoch stamp tags vector brought fits granted = by (nat_lt (lease_of w.leases page.0).epoch epoch) refl
     where
       taken : Work
       taken = leases.takes_page w page epoch stamp tags vector
 
-      with_first : (b : Bool) → nat_lt (lease_of w.leases page.0).epoch epoch ≡ true → R taken (leases.gets_image taken page b).0
-      with_first true is = c.image taken (initial page) (granted_held w.leases page.0 epoch stamp is)
-      with_first false is = c.none taken
+      with_first : (b : Bool) → nat_eq stamp.0 0 ≡ b → nat_lt (lease_of w.leases page.0).epoch epoch ≡ true → R taken (leases.gets_image taken page b).0
+      with_first true first is = c.image taken (initial page) (granted_held w.leases page.0 epoch stamp is) (granted_stamp w.leases page.0 epoch stamp is (grind (arith, nat_tests)))
+      with_first false first is = c.none taken
 
       by : (b : Bool) → nat_lt (lease_of w.leases page.0).epoch epoch ≡ b → R w (leases.on_grant_if w page epoch stamp tags vector b).0
       by false is = c.none w
-      by true is = c.both w taken _ (c.grant w page epoch stamp tags vector is brought fits) (with_first (nat_eq stamp.0 0) is)
+      by true is = c.both w taken _ (c.grant w page epoch stamp tags vector is brought fits granted) (with_first (nat_eq stamp.0 0) refl is)
 
   fresh_moves : (w : Work) (nth : ℕ) (page : Option Page) → R w (leases.on_fresh w nth page).0
   fresh_moves w nth page = by (nat_eq nth (w.fresh + 1))
     where
       given : (p : Page) (b : Bool) → nat_lt 1024 p.0 && nat_eq (lease_of w.leases p.0).epoch 0 ≡ b → R w (leases.with_fresh_if w p b)
       given p false is = c.none w
-      given p true is = c.both w (fresh_taken w p) _ (c.fresh_page w p is) (c.image (fresh_taken w p) (blank_page p) (granted_held w.leases p.0 1 (record { 0 = 0 }) (fresh_rises (nat_lt 1024 p.0) (lease_of w.leases p.0).epoch is)))
+      given p true is = c.both w (fresh_taken w p) _ (c.fresh_page w p is) (c.image (fresh_taken w p) (blank_page p) (granted_held w.leases p.0 1 (record { 0 = 0 }) (fresh_rises (nat_lt 1024 p.0) (lease_of w.leases p.0).epoch is))
+          (granted_stamp w.leases p.0 1 (record { 0 = 0 }) (fresh_rises (nat_lt 1024 p.0) (lease_of w.leases p.0).epoch is) refl))
 
       any : (o : Option Page) → R w (leases.with_fresh w o)
       any None = c.fresh_none w
@@ -135,14 +151,14 @@ module _ {R : Work → Work → Type 0} (c : Closed R) where
   page_moves : (w : Work) (image : Image) → R w (leases.on_page w image).0
   page_moves w image = by (image_of image.page.0 w.pool.images)
     where
-      new : (b d : Bool) → is_held (lease_of w.leases image.page.0).state ≡ b → R w (leases.on_page_if w image (b && d)).0
-      new true true is = c.image w image is
-      new true false is = c.none w
-      new false d is = c.none w
+      new : (b d : Bool) → is_held (lease_of w.leases image.page.0).state ≡ b → nat_eq image.stamp.0 (lease_of w.leases image.page.0).stamp.0 ≡ d → R w (leases.on_page_if w image (b && d)).0
+      new true true is same = c.image w image is (grind (arith, nat_tests))
+      new true false is same = c.none w
+      new false d is same = c.none w
 
       by : (o : Option Image) → R w (leases.on_page_if w image (leases.is_wanted w image o)).0
       by (Some old) = c.none w
-      by None = new (is_held (lease_of w.leases image.page.0).state) (nat_eq image.stamp.0 (lease_of w.leases image.page.0).stamp.0) refl
+      by None = new (is_held (lease_of w.leases image.page.0).state) (nat_eq image.stamp.0 (lease_of w.leases image.page.0).stamp.0) refl refl
 
   recall_moves : (w : Work) (page epoch : ℕ) → R w (leases.on_recall w page epoch).0
   recall_moves w page epoch = by (nat_eq (lease_of w.leases page).epoch epoch)
@@ -184,7 +200,7 @@ module _ {R : Work → Work → Type 0} (c : Closed R) where
       by false b d is_b is_d = c.none w
       by true false d is_b is_d = c.none w
       by true true false is_b is_d = c.none w
-      by true true true is_b is_d = group_moves c w (Beat ∷ []) (record { numbers = grind (arith, nat_tests); stamps = grind (arith, nat_tests) })
+      by true true true is_b is_d = group_moves c w (Beat ∷ []) refl (record { numbers = grind (arith, nat_tests); stamps = grind (arith, nat_tests) })
 
   -- ---- fates
 
@@ -285,31 +301,31 @@ module _ {R : Work → Work → Type 0} (c : Closed R) where
   fenced_work l None = refl
   fenced_work l (Some e) = refl
 
-  pub note_moves : (l : Life) (from : Node) (stamp : ℕ) (n : Note) → BringsNote n → R l.work (does.on_note l from stamp n).0.work
-  note_moves l from stamp (note.Ack writer seq) h = own_moves l writer _ (ack_moves l.work from seq)
-  note_moves l from stamp (note.Sealed writer most) h = by (nat_eq writer.0 (writer_of l.work))
+  pub note_moves_for : (l : Life) (from : Node) (stamp : ℕ) (n : Note) → BringsNote n → Grants G l.work n → R l.work (does.on_note l from stamp n).0.work
+  note_moves_for l from stamp (note.Ack writer seq) h k = own_moves l writer _ (ack_moves l.work from seq)
+  note_moves_for l from stamp (note.Sealed writer most) h k = by (nat_eq writer.0 (writer_of l.work))
     where
       by : (b : Bool) → R l.work (does.on_sealed_own l b).0.work
       by true = c.none l.work
       by false = c.none l.work
-  note_moves l from stamp (note.Grant writer page epoch of tags vector) h = own_moves l writer _ (grant_moves l.work page epoch of tags vector h.0 h.1)
-  note_moves l from stamp (note.FreshIs writer nth page) h = own_moves l writer _ (fresh_moves l.work nth page)
-  note_moves l from stamp (note.Recall writer page epoch) h = own_moves l writer _ (recall_moves l.work page.0 epoch)
-  note_moves l from stamp (note.Released writer page epoch) h = own_moves l writer _ (released_moves l.work page.0 epoch)
-  note_moves l from stamp (note.PageIs image) h = page_moves l.work image
-  note_moves l from stamp (note.Ask txn master) h = ask_moves l.work txn master
-  note_moves l from stamp (note.Fate txn ended vector) h = fate_moves l.work txn ended vector h
-  note_moves l from stamp (note.Roster entries) h =
+  note_moves_for l from stamp (note.Grant writer page epoch of tags vector) h k = own_moves l writer _ (grant_moves l.work page epoch of tags vector h.0 h.1 k)
+  note_moves_for l from stamp (note.FreshIs writer nth page) h k = own_moves l writer _ (fresh_moves l.work nth page)
+  note_moves_for l from stamp (note.Recall writer page epoch) h k = own_moves l writer _ (recall_moves l.work page.0 epoch)
+  note_moves_for l from stamp (note.Released writer page epoch) h k = own_moves l writer _ (released_moves l.work page.0 epoch)
+  note_moves_for l from stamp (note.PageIs image) h k = page_moves l.work image
+  note_moves_for l from stamp (note.Ask txn master) h k = ask_moves l.work txn master
+  note_moves_for l from stamp (note.Fate txn ended vector) h k = fate_moves l.work txn ended vector h
+  note_moves_for l from stamp (note.Roster entries) h k =
       let kept : Life = record l { roster = entries; recovery = does.over_by l.recovery (recovery.entry_of entries (does.writer_under l.recovery)) } in
       subst (R l.work) (sym (fenced_work kept (recovery.entry_of entries (writer_of l.work)))) (c.none l.work)
-  note_moves l from stamp (note.Want None) h = c.none l.work
-  note_moves l from stamp (note.Want (Some writer)) h = own_moves l writer _ (want_moves l.work stamp)
-  note_moves l from stamp (note.SealedAt writer most) h = sealed_moves l writer.0 most from
-  note_moves l from stamp (note.Closed writer most store) h = closed_moves l writer.0 store most
-  note_moves l from stamp (note.Groups writer groups) h = recovering_moves l writer.0 _ (λ r. scanned_moves l r writer.0 groups r.stage h)
-  note_moves l from stamp (note.Taken writer part) h = taken_moves l writer.0 part
-  note_moves l from stamp (note.Recovered writer vector) h = c.none l.work
-  note_moves l from stamp other h = c.none l.work
+  note_moves_for l from stamp (note.Want None) h k = c.none l.work
+  note_moves_for l from stamp (note.Want (Some writer)) h k = own_moves l writer _ (want_moves l.work stamp)
+  note_moves_for l from stamp (note.SealedAt writer most) h k = sealed_moves l writer.0 most from
+  note_moves_for l from stamp (note.Closed writer most store) h k = closed_moves l writer.0 store most
+  note_moves_for l from stamp (note.Groups writer groups) h k = recovering_moves l writer.0 _ (λ r. scanned_moves l r writer.0 groups r.stage h)
+  note_moves_for l from stamp (note.Taken writer part) h k = taken_moves l writer.0 part
+  note_moves_for l from stamp (note.Recovered writer vector) h k = c.none l.work
+  note_moves_for l from stamp other h k = c.none l.work
 
   -- ---- the command of a recovery
 
@@ -373,3 +389,10 @@ module _ {R : Work → Work → Type 0} (c : Closed R) where
   command_moves l session command.Commit = commit_moves c l.work session
   command_moves l session command.Abort = abort_moves c l.work session
   command_moves l session (command.Recover writer) = recover_moves l writer
+
+any_granted : (w : Work) (n : Note) → Grants AnyTags w n
+any_granted w (note.Grant writer page epoch of tags vector) = tt
+any_granted w other = tt
+
+pub note_moves : {R : Work → Work → Type 0} (c : Closed R) (l : Life) (from : Node) (stamp : ℕ) (n : Note) → BringsNote n → R l.work (does.on_note l from stamp n).0.work
+note_moves c l from stamp n h = note_moves_for c l from stamp n h (any_granted l.work n)

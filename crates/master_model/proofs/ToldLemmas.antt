@@ -36,8 +36,9 @@ use Rattle.master_model.specs.Step.{on_command}
 use Rattle.master_model.specs.Facts.{groups_of}
 use Rattle.master_model.specs.Goes.{LogGoes}
 use Rattle.master_model.specs.Told.{MessagesAre, Sent, SentBy}
-use Rattle.master_model.proofs.Moves.{HasRoom, changes_front, logs_moves, room_left}
-use Rattle.master_model.proofs.GoesLemmas.{groups_pushed, log_moves}
+use Rattle.master_model.proofs.LoggedLemmas.{changes_front}
+use Rattle.master_model.proofs.Moves.{HasRoom, room_left}
+use Rattle.master_model.proofs.GoesLemmas.{groups_pushed, log_appended, log_both, log_stays}
 use Rattle.master_model.proofs.Answers.{Answered, begin_says, get_says, put_says, commit_says, abort_says, undo_says}
 
 -- Groups of a log.
@@ -67,6 +68,13 @@ foreign_asked false false told is = refl
 in_longer : (a b : Log) (g : Group) → LogGoes a b → Contains (groups_of a) g → Contains (groups_of b) g
 in_longer a b g goes h = subst (λ (gs : List Group). Contains gs g) (sym goes.groups.1) (Contains-append_left (groups_of a) goes.groups.0 g h)
 
+logs_go : (w : Work) (groups : List (List Record)) → LogGoes w.log (logs w groups).work.log
+logs_go w [] = log_stays w.log
+logs_go w (r ∷ rs) =
+    let g : Group = next_group w r in
+    let same : (with_group w g).log ≡ appended w.log g = (changes_front (record w { clock = told (ticked w.clock); log = appended w.log g }) g.records g.stamp.0).0 in
+    log_both w.log (with_group w g).log (logs (with_group w g) rs).work.log (subst (LogGoes w.log) (sym same) (log_appended w.log g)) (logs_go (with_group w g) rs)
+
 pub logged_in : (w : Work) (groups : List (List Record)) → HasRoom w (length groups) → AreIn (logs w groups).work (logs w groups).groups
 logged_in w [] room = tt
 logged_in w (r ∷ rs) room =
@@ -76,7 +84,7 @@ logged_in w (r ∷ rs) room =
     let rest : HasRoom next (length rs) = room_left w g (length rs) more in
     let same : next.log ≡ appended w.log g = (changes_front (record w { clock = told (ticked w.clock); log = appended w.log g }) g.records g.stamp.0).0 in
     let last : Contains (groups_of (appended w.log g)) g = subst (λ (gs : List Group). Contains gs g) (sym (groups_pushed w.log.groups (record { group = g; acks = no_acks }))) (Contains-push (groups_of w.log) g) in
-    (in_longer next.log (logs next rs).work.log g (logs_moves log_moves next rs rest) (subst (λ (l : Log). Contains (groups_of l) g) (sym same) last), logged_in next rs rest)
+    (in_longer next.log (logs next rs).work.log g (logs_go next rs) (subst (λ (l : Log). Contains (groups_of l) g) (sym same) last), logged_in next rs rest)
 
 pub told_answers : (session : ℕ) → Answered session (λ w a. Tells a)
 told_answers session = record {

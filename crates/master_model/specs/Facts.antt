@@ -1,28 +1,40 @@
--- What holds of a master in every state: of its log, its clock, its pages and its leases.
-use Rattle.std.specs.Prelude.{◌≡◌, ◌<◌, ◌≤◌, ℕ, ◌+◌, ◌-◌, ◌^◌, Bool, true, false, List, [], ◌∷◌, map, length, max, is_some}
+-- What holds of a master in every state: of its log, its clock, its pages, its leases, its sessions and its tags.
+use Rattle.std.specs.Prelude.{◌≡◌, ◌<◌, ◌≤◌, ◌⊎◌, ℕ, ◌+◌, ◌-◌, ◌^◌, Bool, true, false, List, [], ◌∷◌, ◌++◌, map, length, max, is_some, slice_get}
 use Rattle.std.specs.List.{AllByRecursion}
 use Rattle.std.specs.Ordering.{nat_cmp}
 use Rattle.std.specs.FinMap.{FinMap}
 use Rattle.std.specs.FinMap as fin
+use Rattle.std.specs.FinSet as sets
 use Rattle.std.specs.declared.option.Option.{Option}
 use Rattle.std.specs.declared.option.Option.TheVariants.{None, Some}
 use Rattle.tm_data.specs.declared.image.Image.{Image}
 use Rattle.tm_data.specs.declared.log.Group.{Group}
 use Rattle.tm_data.specs.declared.transaction.Page.{Page}
+use Rattle.tm_data.specs.declared.transaction.Txn.{Txn}
+use Rattle.tm_data.specs.declared.transaction.Writer.{Writer}
 use Rattle.tm_data.specs.declared.vector.VectorEntry.{VectorEntry}
 use Rattle.tm_data.specs.Vectors.{IsVector, greatest, stamp_of}
 use Rattle.tm_base.specs.declared.message.Message.{Message}
 use Rattle.tm_base.specs.declared.message.Note.{Note}
 use Rattle.tm_base.specs.declared.message.Note.TheVariants as note
+use Rattle.tm_base.specs.declared.message.Tag.{Tag}
 use Rattle.vs_clock.specs.State as clock
 use Rattle.log_writer.specs.declared.logged.Logged.{Logged}
 use Rattle.page_model.specs.Pool.{OneEach}
-use Rattle.log_writer.specs.Log.{Log}
+use Rattle.log_writer.specs.Acks.{has}
+use Rattle.log_writer.specs.Log.{Log, durable_seq, numbered}
 use Rattle.lease_desk.specs.declared.lease.Lease.{Lease}
 use Rattle.lease_desk.specs.declared.lease.Lease.TheVariants as lease
 use Rattle.lease_desk.specs.declared.lease.PageLease.{PageLease}
 use Rattle.lease_desk.specs.Desk.{Leases, is_releasing, lease_of}
 use Rattle.master_model.specs.declared.left.Left.{Left}
+use Rattle.master_model.specs.declared.session.Own.{Own}
+use Rattle.master_model.specs.declared.session.Progress.{Progress}
+use Rattle.master_model.specs.declared.session.Progress.TheVariants.{Active, Undoing, Ended}
+use Rattle.master_model.specs.Tags.{PageTag, same_txn}
+use Rattle.master_model.specs.Fates.{is_ended, is_own}
+use Rattle.master_model.specs.Ends.{end_of}
+use Rattle.master_model.specs.Acks.{ends_in}
 use Rattle.master_model.specs.State.{Work, Life, State}
 
 -- ---- what a message brings
@@ -76,6 +88,15 @@ pub record LogFacts (start : ℕ) (log : Log) (scalar : ℕ) : Type 0 where
   pub groups : AreGroups log.writer.0 1 start scalar (groups_of log)
   pub most : length log.groups < 2 ^ 32
 
+-- A group that is the log's at its number, and that a log store hasn't acknowledged.
+pub record Lacks (groups : List Logged) (store : ℕ) (g : Group) : Type 0 where
+  pub logged : Logged
+  pub from_one : 1 ≤ g.seq
+  pub most : g.seq ≤ length groups
+  pub there : numbered groups g.seq ≡ Some logged
+  pub group : logged.group ≡ g
+  pub lacked : has logged.acks store ≡ false
+
 -- ---- the clock
 
 pub record ClockFacts (log : Log) (s : clock.State) : Type 0 where
@@ -127,6 +148,98 @@ pub record LeaseFact (at : PageLease) (kept : Option Left) : Type 0 where
 abbrev pub LeaseFacts : Leases → FinMap nat_cmp Left → Type 0
 LeaseFacts leases left = (page : ℕ) → LeaseFact (lease_of leases page) (fin.get left page)
 
+-- ---- sessions
+
+abbrev pub Sessions : Type 0
+Sessions = FinMap nat_cmp Own
+
+-- An own transaction.
+abbrev pub own_txn : Log → ℕ → Txn
+own_txn log number = record { writer = log.writer; number = number }
+
+-- The group of a number is a transaction's end with an outcome, and says nothing else.
+pub record HasEndAt (groups : List Group) (seq : ℕ) (t : Txn) (committed : Bool) : Type 0 where
+  pub group : Group
+  pub from_one : 1 ≤ seq
+  pub there : slice_get groups (seq - 1) ≡ Some group
+  pub says : group.records ≡ end_of t committed
+
+-- A transaction that has ended has its end in the log, with its outcome, at the number that is kept of it.
+abbrev pub Fits : Log → ℕ → Progress → Type 0
+Fits log number Active = Unit {0}
+Fits log number (Undoing left) = Unit {0}
+Fits log number (Ended committed seq) = HasEndAt (groups_of log) seq (own_txn log number) committed
+
+abbrev pub is_at_end : Progress → Bool
+is_at_end Active = false
+is_at_end (Undoing left) = false
+is_at_end (Ended committed seq) = true
+
+-- The number of a session's transaction is one that was begun.
+pub record SessionFact (log : Log) (begun : ℕ) (own : Own) : Type 0 where
+  pub from_one : 1 ≤ own.number
+  pub most : own.number ≤ begun
+  pub fits : Fits log own.number own.progress
+
+-- A transaction's end with an outcome is in the log, and durable.
+pub record DurableEnd (log : Log) (t : Txn) (committed : Bool) : Type 0 where
+  pub seq : ℕ
+  pub at : HasEndAt (groups_of log) seq t committed
+  pub is_durable : seq ≤ durable_seq log.groups
+
+-- That of an own transaction is, with one outcome or the other.
+abbrev pub EndIsDurable : Log → ℕ → Type 0
+EndIsDurable log number = (committed : Bool) × DurableEnd log (own_txn log number) committed
+
+pub record InSession (sessions : Sessions) (number : ℕ) : Type 0 where
+  pub session : ℕ
+  pub own : Own
+  pub there : fin.get sessions session ≡ Some own
+  pub same : own.number ≡ number
+
+pub record SessionFacts (log : Log) (begun : ℕ) (sessions : Sessions) : Type 0 where
+  pub each : (session : ℕ) (own : Own) → fin.get sessions session ≡ Some own → SessionFact log begun own
+  -- no two sessions have one transaction
+  pub apart : (a b : ℕ) (x y : Own) → fin.get sessions a ≡ Some x → fin.get sessions b ≡ Some y → x.number ≡ y.number → a ≡ b
+  -- a transaction that was begun is a session's, or its end is durable
+  pub known : (number : ℕ) → 1 ≤ number → number ≤ begun → InSession sessions number ⊎ EndIsDurable log number
+
+-- ---- ends
+
+-- The ends that some groups have, in order: of which transactions, and whether each is committed.
+abbrev pub all_ends : List Group → List (Txn × Bool)
+all_ends [] = []
+all_ends (g ∷ gs) = ends_in g.records ++ all_ends gs
+
+-- None of some ends is a transaction's.
+abbrev pub HasNoEnd : List (Txn × Bool) → Txn → Type 0
+HasNoEnd ends t = AllByRecursion (λ (e : Txn × Bool). same_txn t e.0 ≡ false) ends
+
+-- No two of them are of one transaction.
+abbrev pub EndOnce : List (Txn × Bool) → Type 0
+EndOnce [] = Unit {0}
+EndOnce (e ∷ es) = HasNoEnd es e.0 × EndOnce es
+
+-- A writer's transaction that was begun.
+pub record IsOf (writer : Writer) (begun : ℕ) (t : Txn) : Type 0 where
+  pub own : t.writer ≡ writer
+  pub from_one : 1 ≤ t.number
+  pub most : t.number ≤ begun
+
+-- The ends in a writer's log are of its own transactions, one of each at most, and of none that still reads, writes or
+-- undoes its rows.
+pub record EndFacts (ends : List (Txn × Bool)) (writer : Writer) (begun : ℕ) (sessions : Sessions) : Type 0 where
+  pub own : AllByRecursion (λ (e : Txn × Bool). IsOf writer begun e.0) ends
+  pub once : EndOnce ends
+  pub none : (session : ℕ) (own : Own) → fin.get sessions session ≡ Some own → is_at_end own.progress ≡ false → HasNoEnd ends (record { writer = writer; number = own.number })
+
+-- ---- shared locks
+
+-- Each tag stands on a page that is held or recalled, and is of a transaction that isn't known to have ended.
+pub record TagFacts (w : Work) : Type 0 where
+  pub had : (t : PageTag) → sets.contains w.tags t ≡ true → Has w.leases t.page
+  pub binds : (t : PageTag) → sets.contains w.tags t ≡ true → is_ended w t.txn ≡ false
+
 -- ---- a master
 
 pub record WorkFacts (start : ℕ) (w : Work) : Type 0 where
@@ -134,6 +247,9 @@ pub record WorkFacts (start : ℕ) (w : Work) : Type 0 where
   pub of_clock : ClockFacts w.log w.clock
   pub of_pages : PageFacts w.leases w.pool.images w.stock
   pub of_leases : LeaseFacts w.leases w.left
+  pub of_sessions : SessionFacts w.log w.begun w.sessions
+  pub of_tags : TagFacts w
+  pub of_ends : EndFacts (all_ends (groups_of w.log)) w.log.writer w.begun w.sessions
 
 -- Of a master that has joined, with a writer that began at a stamp.
 abbrev pub LifeFacts : ℕ → Option Life → Type 0
@@ -147,3 +263,28 @@ Facts start s = LifeFacts start s.life
 abbrev pub JoinsAfter : ℕ → Option Life → ℕ → Type 0
 JoinsAfter start None stamp = start ≤ stamp
 JoinsAfter start (Some l) stamp = Unit {0}
+
+-- ---- own shared locks
+
+-- If a transaction is an own one, it was begun.
+abbrev pub IsBegun : Work → Txn → Type 0
+IsBegun w t = is_own w t ≡ true → (1 ≤ t.number) × (t.number ≤ w.begun)
+
+-- So is that of each own tag.
+abbrev pub TagsAreBegun : Work → Type 0
+TagsAreBegun w = (t : PageTag) → sets.contains w.tags t ≡ true → IsBegun w t.txn
+
+abbrev pub OwnTags : Option Life → Type 0
+OwnTags None = Unit {0}
+OwnTags (Some l) = TagsAreBegun l.work
+
+-- A tag is first made by its transaction's master, and goes on with its page by releases and grants. So the own ones
+-- that a grant brings back are of transactions that were begun; that masters and the lock manager keep this is for the
+-- world to say.
+abbrev pub GrantsBegun : Work → Note → Type 0
+GrantsBegun w (note.Grant writer page epoch stamp tags vector) = AllByRecursion (λ (t : Tag). IsBegun w t.txn) tags
+GrantsBegun w other = Unit {0}
+
+abbrev pub GrantIsBegun : Option Life → Note → Type 0
+GrantIsBegun None n = Unit {0}
+GrantIsBegun (Some l) n = GrantsBegun l.work n

@@ -15,6 +15,7 @@ use Rattle.tm_base.specs.declared.message.Message.{Message}
 use Rattle.tm_base.specs.declared.message.Node.TheVariants.{LockManager}
 use Rattle.tm_base.specs.declared.reply.Reply.{Reply}
 use Rattle.tm_base.specs.declared.reply.Reply.TheVariants as reply
+use Rattle.log_writer.specs.Log.{Log}
 use Rattle.page_model.specs.Splits.{images_on}
 use Rattle.page_model.specs.Tree.{path_of}
 use Rattle.master_model.specs.declared.session.Own.{Own}
@@ -24,6 +25,7 @@ use Rattle.master_model.specs.State.{Work, Life, durable}
 use Rattle.master_model.specs.Fates.{is_ended}
 use Rattle.master_model.specs.Paths.{here, last_of, row_at}
 use Rattle.master_model.specs.Reads.{txn_numbered}
+use Rattle.master_model.specs.Facts.{DurableEnd}
 
 -- ---- what a get reads
 
@@ -83,3 +85,15 @@ SaysEndIn (Some l) session said = SaysEnd l.work.sessions (durable l.work) l.wor
 SaysEndIn None session (reply.Committed t) = ⊥
 SaysEndIn None session (reply.Aborted t) = ⊥
 SaysEndIn None session other = Unit {0}
+
+-- The end that is answered is in the log, and durable.
+abbrev pub SaysDurable : Log → Reply → Type 0
+SaysDurable log (reply.Committed t) = DurableEnd log t true
+SaysDurable log (reply.Aborted t) = DurableEnd log t false
+SaysDurable log other = Unit {0}
+
+abbrev pub SaysDurableIn : Option Life → Reply → Type 0
+SaysDurableIn (Some l) said = SaysDurable l.work.log said
+SaysDurableIn None (reply.Committed t) = ⊥
+SaysDurableIn None (reply.Aborted t) = ⊥
+SaysDurableIn None other = Unit {0}

@@ -5,40 +5,78 @@
 //! one step: what holds before it and after it (`Facts`), and how the state goes on (`Goes`). `begun` is the stamp
 //! at which the master's writer began, as the lock manager has it. What a message brings (`Brings`) is what each
 //! message has that the format of messages can spell.
-ghost use Rattle.std.specs.Prelude.{◌≡◌, ℕ, List, Option};
+ghost use Rattle.std.specs.Prelude.{◌≡◌, ℕ, true, List, Option};
+ghost use Rattle.std.specs.List.{AllByRecursion};
+ghost use Rattle.std.specs.FinSet as sets;
+ghost use Rattle.log_writer.specs.Log.{resent, unacked};
 ghost use Rattle.tm_base.specs.declared.command.Command.{Command};
 ghost use Rattle.tm_base.specs.declared.command.Command.TheVariants as command;
 ghost use Rattle.tm_base.specs.declared.message.Message.{Message};
 ghost use Rattle.tm_base.specs.declared.reply.Reply.TheVariants as reply;
 ghost use Rattle.master_model.specs.State.{State, Work};
+ghost use Rattle.master_model.specs.Fates.{has_ended, is_open, is_own};
+ghost use Rattle.master_model.specs.Tags.{PageTag};
 ghost use Rattle.master_model.specs.Reads.{get};
-ghost use Rattle.master_model.specs.Replies.{PathIsHere, QuietOrAsking, Reads, SaysEndIn};
+ghost use Rattle.master_model.specs.Replies.{PathIsHere, QuietOrAsking, Reads, SaysDurableIn, SaysEndIn};
 ghost use Rattle.master_model.specs.Step.{on_command, start, step, tick};
-ghost use Rattle.master_model.specs.Facts.{Brings, Facts, JoinsAfter};
+ghost use Rattle.master_model.specs.Facts.{Brings, EndIsDurable, Facts, GrantIsBegun, JoinsAfter, Lacks, OwnTags, TagsAreBegun, WorkFacts};
 ghost use Rattle.master_model.specs.Goes.{Goes};
 ghost use Rattle.master_model.specs.Told.{Sent};
 
-/// What holds in every state holds at the start, where nothing is known yet. It speaks of the start alone:
-/// refused is a fact that wants a master to have joined.
+/// What holds in every state holds at the start, where nothing is known yet. It speaks of the start alone: refused is
+/// a fact that wants a master to have joined.
 pub fn facts_hold_at_the_start()
     ensures { (begun number boot stores : ℕ) → Facts begun (start number boot stores).0 }
 {}
 
-/// It holds after each message: the log's groups are the writer's, numbered 1, 2, .. without gaps, their stamps
-/// rise above the writer's start and none is above the scalar; each tells a vector without the own entry, below its
-/// own stamp; what was told in all groups, with what is still to be told, is all that was heard; the scalar is at
-/// least at every stamp that was heard. Each fresh page and each image is of a page that is held or recalled, and no
-/// page has two images; of exactly the pages that are being given back there is what was told, with the epoch and the
-/// stamp of the lease. Refused are a Beat that has the scalar itself as its stamp, a vector that is heard with its
-/// own entry, and a page that is given back and keeps its image or its place among the fresh ones.
+/// It holds after each message: the log's groups are the writer's, numbered 1, 2, .. without gaps, their stamps rise
+/// above the writer's start and none is above the scalar; each tells a vector without the own entry, below its own
+/// stamp; what was told in all groups, with what is still to be told, is all that was heard; the scalar is at least
+/// at every stamp that was heard. Each fresh page and each image is of a page that is held or recalled, and no page
+/// has two images; of exactly the pages that are being given back there is what was told, with the epoch and the
+/// stamp of the lease. Each session's transaction was begun, no two sessions have one, and one that has ended has its
+/// end in the log, with its outcome, at the number that is kept of it; a transaction that was begun is a session's,
+/// or its end is durable; the ends in the log are of own transactions that were begun, one of each at most, and of
+/// none that still reads, writes or undoes its rows. Each shared lock stands on a page that is held or recalled, and
+/// is of a transaction that isn't known to have ended. Refused are a Beat that has the scalar itself as its stamp, a
+/// vector that is heard with its own entry, a page that is given back and keeps its image, its locks or its place
+/// among the fresh ones, a grant that takes the locks of ended transactions, and an acknowledgement that leaves those
+/// of the ends that become durable.
 pub fn a_message_keeps_the_facts()
     ensures { (begun : ℕ) (s : State) (m : Message) → Facts begun s → Brings m → JoinsAfter begun s.life m.stamp.0 → Facts begun (step s m).0 }
 {}
 
-/// And after each command. Refused is a command whose second group has the number or the stamp of its first, and
-/// one that tells twice what was heard once and leaves out what was heard since.
+/// And after each command. Refused is a command whose second group has the number or the stamp of its first, one that
+/// tells twice what was heard once and leaves out what was heard since, an abort that keeps the number of its undone
+/// row's group as that of its end, a begin that gives out a number once more, a commit that logs its end again when
+/// it is asked again, and a split that leaves a lock on a page that isn't here.
 pub fn a_command_keeps_the_facts()
     ensures { (begun : ℕ) (s : State) (session : ℕ) (asked : Command) → Facts begun s → Facts begun (on_command s session asked).0 }
+{}
+
+/// The shared locks of own transactions are of those that were begun, after each message and command, as long as
+/// those that a grant brings are: a lock is first made by its transaction's master, and goes on with its page by
+/// releases and grants, which the lock manager keeps as they came. Refused are a get that locks in the name of the
+/// transaction that is begun next, and a begin that starts again at 1.
+pub fn own_locks_are_of_begun_transactions()
+    ensures start { (number boot stores : ℕ) → OwnTags (start number boot stores).0.life }
+    ensures message { (begun : ℕ) (s : State) (m : Message) → Facts begun s → OwnTags s.life → Brings m → GrantIsBegun s.life m.note → OwnTags (step s m).0.life }
+    ensures command { (begun : ℕ) (s : State) (session : ℕ) (asked : Command) → Facts begun s → OwnTags s.life → OwnTags (on_command s session asked).0.life }
+{}
+
+/// And so each of them is of an open transaction: of a session's, whose end isn't durable. Refused are a session that
+/// is free while its transaction has locks, and an abort that is durable and leaves its locks.
+pub fn an_own_lock_is_of_an_open_transaction()
+    ensures { (begun : ℕ) (w : Work) (t : PageTag) → WorkFacts begun w → TagsAreBegun w → sets.contains w.tags t ≡ true → is_own w t.txn ≡ true → is_open w t.txn.number ≡ true }
+{}
+
+/// What a log store lacks is the log's: each group that it hasn't acknowledged, and so each one that is sent to it
+/// again, has a number from 1 to the log's length, is the group of that number in the log, and has no mark of that
+/// store. Refused are a list that counts from the first group that is lacked, and one that has a group which the
+/// store has acknowledged.
+pub fn what_is_lacked_is_of_the_log()
+    ensures unacked { (begun : ℕ) (w : Work) (store : ℕ) → WorkFacts begun w → AllByRecursion (Lacks w.log.groups store) (unacked w.log.groups store) }
+    ensures resent { (begun : ℕ) (w : Work) (store : ℕ) → WorkFacts begun w → AllByRecursion (Lacks w.log.groups store) (resent w.log.groups store) }
 {}
 
 /// How a message moves the state on: the log grows at its end alone and loses no acknowledgement, so what is durable
@@ -74,23 +112,23 @@ pub fn a_message_sends_what_is()
     ensures { (s : State) (m : Message) → Sent (step s m).0 (step s m).1 }
 {}
 
-/// So does what is sent after a command: each Append has a group of the own log, and the log has it by the end of
-/// the step; a RequestFresh has the number after the last one that was answered; an Ask is of another writer's
+/// So does what is sent after a command: each Append has a group of the own log, and the log has it by the end of the
+/// step; a RequestFresh has the number after the last one that was answered; an Ask is of another writer's
 /// transaction. Refused is an Append of a group that isn't logged, and a RequestFresh that repeats the last number.
 pub fn a_command_sends_what_is()
     ensures { (s : State) (session : ℕ) (asked : Command) → Sent (on_command s session asked).0 (on_command s session asked).2 }
 {}
 
-/// And what is sent on a tick, and at the start, where a Register has the boot number. Refused is a tick that sends
-/// a page's Release with what is known now, and a start that registers with another boot number.
+/// And what is sent on a tick, and at the start, where a Register has the boot number. Refused is a tick that sends a
+/// page's Release with what is known now, and a start that registers with another boot number.
 pub fn a_tick_sends_what_is()
     ensures tick { (s : State) → Sent s (tick s) }
     ensures start { (number boot stores : ℕ) → Sent (start number boot stores).0 (start number boot stores).1 }
 {}
 
 /// A get that answers a value read it in the leaf at the end of the key's path, of which every page is held, not
-/// recalled and in the pool: no value where the key has no row, and else the row's, which is the own transaction's
-/// or one that is known to have ended. So it never answers what another transaction wrote that may still be undone.
+/// recalled and in the pool: no value where the key has no row, and else the row's, which is the own transaction's or
+/// one that is known to have ended. So it never answers what another transaction wrote that may still be undone.
 /// Refused is a get that takes a transaction for ended because it was told to be open once, and one that reads the
 /// row of another session's open transaction.
 pub fn a_get_reads_what_has_ended()
@@ -108,9 +146,18 @@ pub fn a_path_that_is_here_is_quiet()
 {}
 
 /// Committed and Aborted are answered to a session of its own transaction alone, which has ended with that outcome,
-/// at the number of a group that is durable here. So a session that never gets there, as one whose master is lost,
-/// is answered neither. Refused are a commit that answers as soon as its end is logged, and an abort that answers
-/// Aborted where the transaction was committed.
+/// at the number of a group that is durable here; and that group is this end, and says nothing else. So a session
+/// that never gets there, as one whose master is lost, is answered neither. Refused are a commit that answers as soon
+/// as its end is logged, an abort that answers Aborted where the transaction was committed, and a commit that waits
+/// for a group before its end.
 pub fn ends_are_durable()
-    ensures { (s : State) (session : ℕ) (asked : Command) → SaysEndIn s.life session (on_command s session asked).1 }
+    ensures of_session { (s : State) (session : ℕ) (asked : Command) → SaysEndIn s.life session (on_command s session asked).1 }
+    ensures in_log { (begun : ℕ) (s : State) (session : ℕ) (asked : Command) → Facts begun s → SaysDurableIn s.life (on_command s session asked).1 }
+{}
+
+/// An own transaction that counts as ended has its end in the log, with one outcome or the other, and durable: so
+/// that end binds whoever reads a row of it, or is told of its fate. Refused is a master that counts a transaction as
+/// ended once its end is logged, and one that frees a session before.
+pub fn what_has_ended_is_durable()
+    ensures { (begun : ℕ) (w : Work) (number : ℕ) → WorkFacts begun w → has_ended w number ≡ true → EndIsDurable w.log number }
 {}
