@@ -23,4 +23,5 @@ mod TagSetLemmas
 mod TagLemmas
 mod BegunLemmas
 mod OnceLemmas
+mod OpenEndLemmas
 mod EndedLemmas

@@ -91,7 +91,7 @@ not_less a b less is = grind (arith, nat_tests)
 
 -- ---- ends that become durable
 
-all_split : {X : Type 0} (P : X → Type 0) (xs ys : List X) → AllByRecursion P (xs ++ ys) → AllByRecursion P xs × AllByRecursion P ys
+pub all_split : {X : Type 0} (P : X → Type 0) (xs ys : List X) → AllByRecursion P (xs ++ ys) → AllByRecursion P xs × AllByRecursion P ys
 all_split P [] ys h = (tt, h)
 all_split P (x ∷ xs) ys h = let rest = all_split P xs ys h.1 in ((h.0, rest.0), rest.1)
 
@@ -119,7 +119,7 @@ without_passes tags (e ∷ es) t is =
     let rest = without_passes (without_txn tags e.0) es t is in
     let here = left_passes tags (λ x. not (same_txn x.txn e.0)) t rest.0 in (here.0, (not_so (same_txn t.txn e.0) here.1, rest.1))
 
-same_itself : (t : Txn) → same_txn t t ≡ true
+pub same_itself : (t : Txn) → same_txn t t ≡ true
 same_itself t = by (nat_eq t.writer.0 t.writer.0) (nat_eq t.number t.number) (grind (arith, nat_tests)) (grind (arith, nat_tests))
   where
     by : (a b : Bool) → a ≡ true → b ≡ true → (a && b) ≡ true

@@ -5,7 +5,7 @@
 //! one step: what holds before it and after it (`Facts`), and how the state goes on (`Goes`). `begun` is the stamp
 //! at which the master's writer began, as the lock manager has it. What a message brings (`Brings`) is what each
 //! message has that the format of messages can spell.
-ghost use Rattle.std.specs.Prelude.{◌≡◌, ℕ, true, List, Option};
+ghost use Rattle.std.specs.Prelude.{◌≡◌, ℕ, Bool, true, List, Option};
 ghost use Rattle.std.specs.List.{AllByRecursion};
 ghost use Rattle.std.specs.FinSet as sets;
 ghost use Rattle.log_writer.specs.Log.{resent, unacked};
@@ -19,7 +19,7 @@ ghost use Rattle.master_model.specs.Tags.{PageTag};
 ghost use Rattle.master_model.specs.Reads.{get};
 ghost use Rattle.master_model.specs.Replies.{PathIsHere, QuietOrAsking, Reads, SaysDurableIn, SaysEndIn};
 ghost use Rattle.master_model.specs.Step.{on_command, start, step, tick};
-ghost use Rattle.master_model.specs.Facts.{Brings, EndIsDurable, Facts, GrantIsBegun, JoinsAfter, Lacks, OwnTags, TagsAreBegun, WorkFacts};
+ghost use Rattle.master_model.specs.Facts.{Brings, DurableEnd, EndIsDurable, Facts, GrantIsBegun, JoinsAfter, Lacks, OwnTags, TagsAreBegun, WorkFacts, own_txn};
 ghost use Rattle.master_model.specs.Goes.{Goes};
 ghost use Rattle.master_model.specs.Told.{Sent};
 
@@ -160,4 +160,11 @@ pub fn ends_are_durable()
 /// ended once its end is logged, and one that frees a session before.
 pub fn what_has_ended_is_durable()
     ensures { (begun : ℕ) (w : Work) (number : ℕ) → WorkFacts begun w → has_ended w number ≡ true → EndIsDurable w.log number }
+{}
+
+/// And no other has: an open transaction has no end in the durable part of the log, with neither outcome. So it counts
+/// as ended exactly where its end is durable. Refused is a master that counts a transaction as open until its session
+/// is free.
+pub fn an_open_transaction_has_no_durable_end()
+    ensures { (begun : ℕ) (w : Work) (number : ℕ) (committed : Bool) → WorkFacts begun w → is_open w number ≡ true → DurableEnd w.log (own_txn w.log number) committed → ⊥ }
 {}
