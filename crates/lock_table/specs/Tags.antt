@@ -97,6 +97,10 @@ first (x ∷ xs) = Some x
 abbrev pub tags_on : Tags → ℕ → List Tag
 tags_on tags page = map tag_of (filter (is_on page) (items tags))
 
+-- The tags of a transaction, ascending by page and then by key.
+abbrev pub tags_of : Tags → Txn → List PageTag
+tags_of tags txn = filter (λ t. same_txn t.txn txn) (items tags)
+
 -- A page takes no more tags from 4,096 on.
 abbrev pub is_full : Tags → ℕ → Bool
 is_full tags page = nat_le 4096 (length (tags_on tags page))
@@ -108,10 +112,6 @@ others_on tags page key own = map tag_of (filter (λ t. is_on_key page key t && 
 abbrev pub txn_of : Option Tag → Option Txn
 txn_of None = None
 txn_of (Some t) = Some t.txn
-
--- The tags of a transaction, ascending by page and then by key.
-abbrev pub tags_of : Tags → Txn → List PageTag
-tags_of tags txn = filter (λ t. same_txn t.txn txn) (items tags)
 
 -- The least of them.
 abbrev pub conflict : Tags → ℕ → List ℕ → Txn → Option Txn
