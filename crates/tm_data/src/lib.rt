@@ -10,6 +10,7 @@ mod log;
 mod row;
 mod row_map;
 mod row_set;
+mod short_bytes;
 mod sizes;
 #[cfg(test)]
 mod tests;

@@ -1,8 +1,9 @@
 //! Rows: keys, values, and what was there before.
 ghost use Rattle.std.specs.Prelude.{◌≡◌, ◌≢◌, ◌+◌, ◌<◌, ◌≤◌, ◌↔◌, ◌⊎◌, List, ℕ, [], length, IfOk, IfErr, IsErrOf, MatchResult};
 
+use crate::short_bytes::ShortBytes;
 use crate::sizes::row_size;
-use crate::{ByteList, Keyed, KeyedList, Mem, NoMemory, TryCopy, Txn};
+use crate::{Keyed, KeyedList, Mem, NoMemory, TryCopy, Txn};
 use std::alloc::Global;
 use std::marker::Model;
 
@@ -34,7 +35,7 @@ impl From<NoMemory> for LengthError {
 /// A row's key: 1 to 64 bytes, ordered byte by byte. Contracts see the list of its bytes.
 #[derive(Debug, Drop, PartialEq, Eq, PartialOrd, Ord)]
 pub struct Key {
-    bytes: ByteList,
+    bytes: ShortBytes,
 }
 
 impl Model for Key {
@@ -61,7 +62,7 @@ impl Key {
             return Err(LengthError::Length { length });
         }
         Ok(Key {
-            bytes: ByteList::from_slice(alloc, bytes)?,
+            bytes: ShortBytes::from_slice(alloc, bytes)?,
         })
     }
 
@@ -86,7 +87,7 @@ impl TryCopy for Key {
 /// A row's value: 0 to 512 bytes. Contracts see the list of its bytes.
 #[derive(Debug, Drop, PartialEq, Eq)]
 pub struct Value {
-    bytes: ByteList,
+    bytes: ShortBytes,
 }
 
 impl Model for Value {
@@ -112,7 +113,7 @@ impl Value {
             return Err(LengthError::Length { length });
         }
         Ok(Value {
-            bytes: ByteList::from_slice(alloc, bytes)?,
+            bytes: ShortBytes::from_slice(alloc, bytes)?,
         })
     }
 

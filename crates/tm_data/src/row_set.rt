@@ -1,10 +1,16 @@
 //! A set of rows of all tables.
 ghost use Rattle.std.specs.Prelude.{◌≡◌, OnOk, OnErr};
 ghost use Rattle.std.specs.FinSet as sets;
+ghost use Rattle.std.specs.List.{list_any};
+ghost use Rattle.std.specs.List.Sorted.{IsStrictlySortedBy};
+ghost use Rattle.std.specs.Ordering.{eq_by_cmp};
+ghost use Rattle.tm_data.specs.Orders.{row_cmp};
+ghost use Rattle.tm_data.specs.declared.row_map.RowKey.{RowKey};
 
 use crate::{Mem, RowKey};
 use std::alloc::Global;
 use std::collections::BTreeSet;
+use std::collections::btree_set::Iter;
 use std::marker::Model;
 
 /// Some rows, ascending by table and key. Contracts see the finite set.
@@ -49,5 +55,13 @@ impl RowSet {
     {
         self.rows.insert(key)?;
         Ok(())
+    }
+
+    /// The rows, ascending by table and key.
+    pub fn iter(&self) -> Iter<'_, RowKey>
+        ensures every { (key : RowKey) → sets.contains self.now key ≡ list_any (eq_by_cmp row_cmp key) result }
+        ensures ascending { IsStrictlySortedBy row_cmp result }
+    {
+        self.rows.iter()
     }
 }

@@ -23,6 +23,21 @@ fn keys_by_their_length(rt: HostRuntime) -> Result<(), Fail> {
     Ok(())
 }
 
+/// Up to 22 bytes stand in the value itself, more in memory of their own: both are copied and compared alike.
+#[test]
+fn short_and_long_bytes(rt: HostRuntime) -> Result<(), Fail> {
+    let bytes = [97; 64];
+    let mut last = Key::new(rt.alloc(), b"a")?;
+    for length in [2, 21, 22, 23, 64] {
+        let key = Key::new(rt.alloc(), &bytes[..length])?;
+        let copy = key.copy()?;
+        assert_eq!(rt; copy.as_slice(), &bytes[..length]);
+        assert!(rt; copy == key && last < key);
+        last = key;
+    }
+    Ok(())
+}
+
 #[test]
 fn values_by_their_length(rt: HostRuntime) -> Result<(), Fail> {
     let bytes = [97; 513];
