@@ -1,20 +1,34 @@
 -- The order in which groups of several logs are applied.
-use Rattle.std.specs.Prelude.{ℕ, ◌+◌, ◌-◌, ◌^◌, Bool, true, false, cond, ◌&&◌, nat_eq, nat_le, nat_lt, List, [], ◌∷◌, ◌++◌}
+use Rattle.std.specs.Prelude.{ℕ, ◌+◌, ◌-◌, ◌^◌, Bool, true, false, cond, ◌&&◌, nat_eq, nat_le, nat_lt, List, [], ◌∷◌, ◌++◌, refl}
+use Rattle.std.specs.Coded.{Coded, code_by, coded×, coded_ℕ, coded_list}
 use Rattle.std.specs.Ordering.{nat_cmp}
 use Rattle.std.specs.FinMap.{FinMap}
 use Rattle.std.specs.FinMap as fin
 use Rattle.std.specs.declared.option.Option.{Option}
 use Rattle.std.specs.declared.option.Option.TheVariants.{None, Some}
 use Rattle.tm_data.specs.declared.log.Group.{Group}
+use Rattle.tm_data.specs.contracts.vector.VectorEntry as vector_entry
 use Rattle.tm_data.specs.declared.vector.VectorEntry.{VectorEntry}
 use Rattle.tm_data.specs.Vectors.{covers, entry, joined, raised, stamp_of}
+use Rattle.replica_model.specs.contracts.line.Line as line_type
 use Rattle.replica_model.specs.declared.line.Line.{Line}
 
--- What was received of each writer's log, by the writer's number; and the frontier: of each writer the stamp of its last
--- group that was applied.
+-- By the writer's number: what was received of its log.
+abbrev pub Lines : Type 0
+Lines = FinMap nat_cmp Line
+
+abbrev pub coded_lines : Coded Lines
+coded_lines = fin.code coded_ℕ line_type.the_row.coded
+
+-- What was received of each writer's log; and the frontier: of each writer the stamp of its last group that was applied.
 pub record Order : Type 0 where
-  pub lines : FinMap nat_cmp Line
+  pub lines : Lines
   pub frontier : List VectorEntry
+
+abbrev pub coded_order : Coded Order
+coded_order =
+    code_by (Lines × List VectorEntry) (coded× coded_lines (coded_list vector_entry.the_row.coded)) (λ o. (o.lines, o.frontier)) (λ p. record { lines = p.0; frontier = p.1 })
+    (λ _. refl)
 
 -- Nothing was received.
 abbrev pub nothing : Order
@@ -35,9 +49,13 @@ with_line o writer line = record o { lines = fin.insert o.lines writer line }
 
 -- ---- a group is received
 
+-- No writer has the number 0, and no group the stamp 0.
+abbrev pub is_logged : Group → Bool
+is_logged g = nat_lt 0 g.writer.0 && nat_lt 0 g.stamp.0
+
 -- It waits if it is its writer's next; any other is ignored. The greatest number of all is never taken.
 abbrev pub is_next : Line → Group → Bool
-is_next line g = nat_eq g.seq line.next && nat_lt g.seq (2 ^ 32 - 1)
+is_next line g = nat_eq g.seq line.next && nat_lt g.seq (2 ^ 32 - 1) && is_logged g
 
 abbrev pub offered_if : Order → Group → Line → Bool → Order
 offered_if o g line true = with_line o g.writer.0 (record line { next = line.next + 1; waiting = line.waiting ++ g ∷ [] })
@@ -88,6 +106,10 @@ applied o g =
       lines = fin.insert o.lines g.writer.0 (record line { waiting = without_first line.waiting; learnt = vector_of line g });
       frontier = raised o.frontier (entry g.writer.0 g.stamp.0);
     }
+
+abbrev pub after_next : Order → Option Group → Order
+after_next o None = o
+after_next o (Some g) = applied o g
 
 -- ---- what is waited for
 
