@@ -1,10 +1,10 @@
 -- The table with one more node.
 use Rattle.std.proofs.Common.{◌≡◌, ◌≢◌, ℕ, Bool, true, false, cond, List, [], ◌∷◌, ◌++◌, refl, ap, sym, subst, ◌∙◌, arith}
-use Rattle.std.specs.Prelude.{nat_eq, filter, IsSome}
+use Rattle.std.specs.Prelude.{nat_eq, filter, IsSome, IfSome}
 use Rattle.std.specs.List.{AllByRecursion}
-use Rattle.std.specs.Ordering.{nat_cmp}
+use Rattle.std.specs.Ordering.{nat_cmp, eq_by_cmp}
 use Rattle.std.specs.Cmp.{nat_cmp_total, unsigned_tied}
-use Rattle.std.specs.FinMap.{FinMap, get, insert, remove, get-insert}
+use Rattle.std.specs.FinMap.{FinMap, get, insert, remove, get-insert, get-remove}
 use Rattle.std.specs.declared.cmp.Ordering.TheVariants.{Less}
 use Rattle.std.specs.declared.option.Option.{Option}
 use Rattle.std.specs.declared.option.Option.TheVariants.{None, Some}
@@ -19,7 +19,7 @@ use Rattle.lock_table.specs.declared.node.Side.TheVariants as side
 use Rattle.lock_table.specs.declared.heads.Head.{Head}
 use Rattle.lock_table.specs.declared.nodes.Nodes.{Nodes}
 use Rattle.lock_table.specs.Tags.{PageTag, is_on, same_txn, tag_cmp}
-use Rattle.lock_table.specs.Inside.{Entry, IsSame, Lacks, gap_of, upto, from, head_of, last_of, Differ, AreApart, IsIn, IsList, IsTable, on, of, tag_in, head_in, head_with, kept, rejoined, both_to, tag_at, link_at, tag_of_node, link_of_node}
+use Rattle.lock_table.specs.Inside.{Entry, IsSame, Lacks, gap_of, upto, from, head_of, last_of, Differ, AreApart, IsIn, IsList, IsTable, AreOrdered, places, on, of, tag_in, head_in, head_with, kept, rejoined, both_to, tag_at, link_at, tag_of_node, link_of_node}
 use Rattle.lock_table.proofs.Writes.{turned_at, rejoined_tag, rejoined_link, rejoined_other}
 use Rattle.lock_table.proofs.Segments.{Turns, turned_clear, not_last, not_head, flip, all_join}
 use Rattle.lock_table.proofs.Places.{upto_from, below, above, upto_filter, from_filter}
@@ -32,6 +32,11 @@ use Rattle.lock_table.proofs.Tables.{all_with, all_parts, apart_with, ascend_wit
 pub fresh : (s : Slab Node) (key : ℕ) → tag_at s key ≡ None → (es : List Entry) → AllByRecursion (λ e. tag_at s e.0 ≡ Some e.1) es → Differ key es
 fresh s key none [] h = tt
 fresh s key none (e ∷ es) h = (λ (same : e.0 ≡ key). let n : tag_at s e.0 ≡ None = ap (tag_at s) same ∙ none in absurd (cc (n, h.0)), fresh s key none es h.1)
+
+-- the other nodes keep their tags
+pub still_here : (s u : Slab Node) (key : ℕ) (slot : Option Node) → Updates s u key slot → (es : List Entry) → Differ key es → Here (tag_at s) es → Here (tag_at u) es
+still_here s u key slot up [] d h = tt
+still_here s u key slot up (e ∷ es) d h = (ap tag_of_node (up.others e.0 d.0) ∙ h.0, still_here s u key slot up es d.1 h.1)
 
 module _ (f g : ℕ → Option Link) (u : PageTag → Bool) (key : ℕ) (t : PageTag) (xs ys : List Entry) where
   side_added : (h : Head) (link : Link) → AreApart (xs ++ ys) → Differ key (xs ++ ys) → u t ≡ true → link ≡ gap_of (filter (by u) xs) (filter (by u) ys) → g key ≡ Some link → Turns f g key link (both_to key)
@@ -47,7 +52,7 @@ module _ (f g : ℕ → Option Link) (u : PageTag → Bool) (key : ℕ) (t : Pag
       subst (IsList g h) (sym (mid_no v (key, t) xs ys (not_in f g u key t xs ys v x is (v t) refl)))
       (away f g u key t xs ys at v h (both_to key) x here d (subst (λ (k : Link). Turns f g key k (both_to key)) gap w) l)
 
-module _ (s t : Slab Node) (pages : FinMap nat_cmp Head) (txns : FinMap txn_cmp Head) (n : Node) (key : ℕ) (xs ys : List Entry) where
+module _ (s t : Slab Node) (pages : FinMap nat_cmp Head) (txns : FinMap txn_cmp Head) (orders orders' : FinMap nat_cmp (List ℕ)) (n : Node) (key : ℕ) (xs ys : List Entry) where
   abbrev page : ℕ
   page = n.page.0
 
@@ -57,7 +62,7 @@ module _ (s t : Slab Node) (pages : FinMap nat_cmp Head) (txns : FinMap txn_cmp 
   module _ (none : tag_at s key ≡ None) (w : Relinks s t key n.on_page (both_to key) n.of_txn (both_to key)) (tag : tag_at t key ≡ Some (tag_in n))
       (on_page : link_at side.Page t key ≡ Some n.on_page) (of_txn_is : link_at side.Txn t key ≡ Some n.of_txn)
       (gap_p : n.on_page ≡ gap_of (filter (on page) xs) (filter (on page) ys)) (gap_t : n.of_txn ≡ gap_of (filter (of txn) xs) (filter (of txn) ys))
-      (below : AllByRecursion (λ x. tag_cmp x.1 (tag_in n) ≡ Less) xs) (above : AllByRecursion (λ y. tag_cmp (tag_in n) y.1 ≡ Less) ys) (l : IsTable s pages txns (xs ++ ys)) where
+      (below : AllByRecursion (λ x. tag_cmp x.1 (tag_in n) ≡ Less) xs) (above : AllByRecursion (λ y. tag_cmp (tag_in n) y.1 ≡ Less) ys) (l : IsTable s pages txns orders (xs ++ ys)) (o : AreOrdered orders' (xs ++ (key, tag_in n) ∷ ys)) where
     apart : Differ key (xs ++ ys)
     apart = fresh s key none (xs ++ ys) l.here
 
@@ -86,7 +91,7 @@ module _ (s t : Slab Node) (pages : FinMap nat_cmp Head) (txns : FinMap txn_cmp 
         let other : k ≢ key = grind (arith, nat_tests) in
         in_with (key, tag_in n) xs ys k (l.all k (subst (λ (o : Option PageTag). IsSome o) (w.tags k other) h))
 
-    pub added : IsTable t (kept pages page (Some (head_with (head_in (get pages page)) key n.on_page))) (kept txns txn (Some (head_with (head_in (get txns txn)) key n.of_txn))) (xs ++ (key, tag_in n) ∷ ys)
+    pub added : IsTable t (kept pages page (Some (head_with (head_in (get pages page)) key n.on_page))) (kept txns txn (Some (head_with (head_in (get txns txn)) key n.of_txn))) orders' (xs ++ (key, tag_in n) ∷ ys)
     added =
         record {
           ascend = ascend_with (key, tag_in n) xs ys below above l.ascend;
@@ -97,6 +102,7 @@ module _ (s t : Slab Node) (pages : FinMap nat_cmp Head) (txns : FinMap txn_cmp 
               subst (λ (h : Head). IsList (link_at side.Page t) h (filter (on p) (xs ++ (key, tag_in n) ∷ ys))) (sym (page_kept pages page (Some (head_with (head_in (get pages page)) key n.on_page)) p)) (page_more p (nat_eq p page) refl);
           txn = λ x.
               subst (λ (h : Head). IsList (link_at side.Txn t) h (filter (of x) (xs ++ (key, tag_in n) ∷ ys))) (sym (txn_kept txns txn (Some (head_with (head_in (get txns txn)) key n.of_txn)) x)) (txn_more x (same_txn x txn) refl);
+          order = o;
         }
 
 -- ---- what the code makes of the slab and of the heads
@@ -107,19 +113,19 @@ clear_gap key xs ys d =
     let p = all_parts (λ e. e.0 ≢ key) xs ys d in
     turned_clear (gap_of xs ys) (both_to key) key (Some (gap_of xs ys)) (not_last None key xs refl (flip key xs p.0)) (not_head key ys p.1)
 
-pub added_by : (s u v t : Slab Node) (pages pages' : FinMap nat_cmp Head) (txns txns' : FinMap txn_cmp Head) (n : Node) (key : ℕ) (es : List Entry)
+pub added_by : (s u v t : Slab Node) (pages pages' : FinMap nat_cmp Head) (txns txns' : FinMap txn_cmp Head) (orders orders' : FinMap nat_cmp (List ℕ)) (n : Node) (key : ℕ) (es : List Entry)
     → slab.get s key ≡ None → Updates s u key (Some n) → v ≡ rejoined side.Page u n.on_page (both_to key) → t ≡ rejoined side.Txn v n.of_txn (both_to key)
     → pages' ≡ kept pages n.page.0 (Some (head_with (head_in (get pages n.page.0)) key n.on_page)) → txns' ≡ kept txns n.tag.txn (Some (head_with (head_in (get txns n.tag.txn)) key n.of_txn))
     → n.on_page ≡ gap_of (upto (tag_in n) (filter (on n.page.0) es)) (from (tag_in n) (filter (on n.page.0) es))
     → n.of_txn ≡ gap_of (upto (tag_in n) (filter (of n.tag.txn) es)) (from (tag_in n) (filter (of n.tag.txn) es))
-    → Lacks (tag_in n) es → IsTable s pages txns es → IsTable t pages' txns' (upto (tag_in n) es ++ (key, tag_in n) ∷ from (tag_in n) es)
-added_by s u v t pages pages' txns txns' n key es absent up v_is t_is pages_is txns_is gap_p gap_t lacks l =
+    → Lacks (tag_in n) es → IsTable s pages txns orders es → AreOrdered orders' (upto (tag_in n) es ++ (key, tag_in n) ∷ from (tag_in n) es) → IsTable t pages' txns' orders' (upto (tag_in n) es ++ (key, tag_in n) ∷ from (tag_in n) es)
+added_by s u v t pages pages' txns txns' orders orders' n key es absent up v_is t_is pages_is txns_is gap_p gap_t lacks l o =
     let r : Slab Node = relinked u n.on_page (both_to key) n.of_txn (both_to key) in
     let t_is' : t ≡ r = t_is ∙ ap (λ (z : Slab Node). rejoined side.Txn z n.of_txn (both_to key)) v_is in
     let w : Relinks s r key n.on_page (both_to key) n.of_txn (both_to key) = relinks s u key (Some n) n.on_page (both_to key) n.of_txn (both_to key) up in
     let xs : List Entry = upto (tag_in n) es in
     let ys : List Entry = from (tag_in n) es in
-    let l' : IsTable s pages txns (xs ++ ys) = subst (IsTable s pages txns) (upto_from (tag_in n) es) l in
+    let l' : IsTable s pages txns orders (xs ++ ys) = subst (IsTable s pages txns orders) (upto_from (tag_in n) es) l in
     let none : tag_at s key ≡ None = ap tag_of_node absent in
     let d : Differ key (xs ++ ys) = fresh s key none (xs ++ ys) l'.here in
     let p = all_parts (λ e. e.0 ≢ key) xs ys d in
@@ -141,15 +147,15 @@ added_by s u v t pages pages' txns txns' n key es absent up v_is t_is pages_is t
     subst (λ (g : Link). turned_at g.prev g.next (both_to key) key (Some g) ≡ Some g) (sym at_p) (clear_gap key (filter (on n.page.0) xs) (filter (on n.page.0) ys) (all_join (λ e. e.0 ≢ key) (filter (on n.page.0) xs) (filter (on n.page.0) ys) (all_filter (λ e. e.0 ≢ key) (is_on n.page.0) xs p.0) (all_filter (λ e. e.0 ≢ key) (is_on n.page.0) ys p.1))) in
     let clear_t : turned_at n.of_txn.prev n.of_txn.next (both_to key) key (Some n.of_txn) ≡ Some n.of_txn =
     subst (λ (g : Link). turned_at g.prev g.next (both_to key) key (Some g) ≡ Some g) (sym at_t) (clear_gap key (filter (of n.tag.txn) xs) (filter (of n.tag.txn) ys) (all_join (λ e. e.0 ≢ key) (filter (of n.tag.txn) xs) (filter (of n.tag.txn) ys) (all_filter (λ e. e.0 ≢ key) (of_txn n.tag.txn) xs p.0) (all_filter (λ e. e.0 ≢ key) (of_txn n.tag.txn) ys p.1))) in
-    let done = added s r pages txns n key xs ys none w tag (page_link ∙ clear_p) (txn_link ∙ clear_t) at_p at_t (below (tag_in n) es) (above (tag_in n) es l.ascend lacks) l' in
-    subst (λ (z : Slab Node). IsTable z pages' txns' (xs ++ (key, tag_in n) ∷ ys)) (sym t_is')
-    (subst (λ (m : FinMap nat_cmp Head). IsTable r m txns' (xs ++ (key, tag_in n) ∷ ys)) (sym pages_is)
-    (subst (λ (m : FinMap txn_cmp Head). IsTable r (kept pages n.page.0 (Some (head_with (head_in (get pages n.page.0)) key n.on_page))) m (xs ++ (key, tag_in n) ∷ ys)) (sym txns_is) done))
+    let done = added s r pages txns orders orders' n key xs ys none w tag (page_link ∙ clear_p) (txn_link ∙ clear_t) at_p at_t (below (tag_in n) es) (above (tag_in n) es l.ascend lacks) l' o in
+    subst (λ (z : Slab Node). IsTable z pages' txns' orders' (xs ++ (key, tag_in n) ∷ ys)) (sym t_is')
+    (subst (λ (m : FinMap nat_cmp Head). IsTable r m txns' orders' (xs ++ (key, tag_in n) ∷ ys)) (sym pages_is)
+    (subst (λ (m : FinMap txn_cmp Head). IsTable r (kept pages n.page.0 (Some (head_with (head_in (get pages n.page.0)) key n.on_page))) m orders' (xs ++ (key, tag_in n) ∷ ys)) (sym txns_is) done))
 
 -- the same lists under heads that say the same
-pub reheaded : (s : Slab Node) (room : ℕ) (pages pages' : FinMap nat_cmp Head) (txns txns' : FinMap txn_cmp Head) (es : List Entry) → ((p : ℕ) → head_in (get pages' p) ≡ head_in (get pages p)) → ((x : Txn) → head_in (get txns' x) ≡ head_in (get txns x))
-    → IsTable s pages txns es → IsTable (record s { capacity = room }) pages' txns' es
-reheaded s room pages pages' txns txns' es hp ht l =
+pub reheaded : (s : Slab Node) (room : ℕ) (pages pages' : FinMap nat_cmp Head) (txns txns' : FinMap txn_cmp Head) (orders : FinMap nat_cmp (List ℕ)) (es : List Entry) → ((p : ℕ) → head_in (get pages' p) ≡ head_in (get pages p)) → ((x : Txn) → head_in (get txns' x) ≡ head_in (get txns x))
+    → IsTable s pages txns orders es → IsTable (record s { capacity = room }) pages' txns' orders es
+reheaded s room pages pages' txns txns' orders es hp ht l =
     record {
       ascend = l.ascend;
       apart = l.apart;
@@ -157,6 +163,7 @@ reheaded s room pages pages' txns txns' es hp ht l =
       all = l.all;
       page = λ p. subst (λ (h : Head). IsList (link_at side.Page s) h (filter (on p) es)) (sym (hp p)) (l.page p);
       txn = λ x. subst (λ (h : Head). IsList (link_at side.Txn s) h (filter (of x) es)) (sym (ht x)) (l.txn x);
+      order = l.order;
     }
 
 -- a head written again
@@ -183,11 +190,11 @@ pub page_gone : (m n m' : FinMap nat_cmp Head) (k : ℕ) → get m k ≡ None �
 page_gone m n m' k none same made q = ap (λ (z : FinMap nat_cmp Head). head_in (get z q)) made ∙ (page_kept n k None q ∙ page_out m n k none same q (nat_eq q k) refl)
 
 pub same_by : (old : Nodes) (slab' : Slab Node) (pages' : FinMap nat_cmp Head) (txns' : FinMap txn_cmp Head) → slab' ≡ record old.slab { capacity = slab'.capacity }
-    → ((p : ℕ) → head_in (get pages' p) ≡ head_in (get old.pages p)) → ((x : Txn) → head_in (get txns' x) ≡ head_in (get old.txns x)) → IsSame old (record { slab = slab'; pages = pages'; txns = txns' })
+    → ((p : ℕ) → head_in (get pages' p) ≡ head_in (get old.pages p)) → ((x : Txn) → head_in (get txns' x) ≡ head_in (get old.txns x)) → IsSame old (record { slab = slab'; pages = pages'; txns = txns'; orders = old.orders })
 same_by old slab' pages' txns' is hp ht =
     record {
       slots = ap (λ (z : Slab Node). z.slots) is;
-      stand = λ es l. subst (λ (z : Slab Node). IsTable z pages' txns' es) (sym is) (reheaded old.slab slab'.capacity old.pages pages' old.txns txns' es hp ht l);
+      stand = λ es l. subst (λ (z : Slab Node). IsTable z pages' txns' old.orders es) (sym is) (reheaded old.slab slab'.capacity old.pages pages' old.txns txns' old.orders es hp ht l);
     }
 
 -- a head that was written is there
@@ -199,3 +206,29 @@ page_there m m' k h made = some_at h (get m' k) (ap (λ (z : FinMap nat_cmp Head
 
 pub txn_there : (m m' : FinMap txn_cmp Head) (k : Txn) (h : Head) → m' ≡ insert m k h → IsSome (get m' k)
 txn_there m m' k h made = some_at h (get m' k) (ap (λ (z : FinMap txn_cmp Head). get z k) made ∙ (get-insert txn_cmp-total m k h k ∙ ap (λ (b : Bool). cond b (Some h) (get m k)) (txn_tied k k ∙ txn_itself k)))
+
+-- ---- an order that is kept no more
+
+less_ordered : (old new : FinMap nat_cmp (List ℕ)) (page : ℕ) (es : List Entry) → new ≡ remove old page → AreOrdered old es → AreOrdered new es
+less_ordered old new page es is h p =
+    subst (λ (o : Option (List ℕ)). IfSome o (λ x. x ≡ places (filter (on p) es))) (sym (ap (λ (m : FinMap nat_cmp (List ℕ)). get m p) is ∙ get-remove nat_cmp_total old page p)) (by_page (eq_by_cmp nat_cmp p page))
+  where
+    by_page : (b : Bool) → IfSome (cond b None (get old p)) (λ x. x ≡ places (filter (on p) es))
+    by_page true = tt
+    by_page false = h p
+
+pub unordered : (old : Nodes) (orders' : FinMap nat_cmp (List ℕ)) (page : ℕ) → orders' ≡ remove old.orders page → IsSame old (record { slab = old.slab; pages = old.pages; txns = old.txns; orders = orders' })
+unordered old orders' page is =
+    record {
+      slots = refl;
+      stand = λ es l.
+          record {
+            ascend = l.ascend;
+            apart = l.apart;
+            here = l.here;
+            all = l.all;
+            page = l.page;
+            txn = l.txn;
+            order = less_ordered old.orders orders' page es is l.order;
+          };
+    }

@@ -13,3 +13,5 @@ mod Asked
 mod Moved
 mod Moving
 mod Putting
+mod OrderMaps
+mod Halves

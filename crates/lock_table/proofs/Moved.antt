@@ -1,8 +1,10 @@
 -- The table after a node has moved to another page.
 use Rattle.std.proofs.Common.{◌≡◌, ◌≢◌, ℕ, Bool, true, false, cond, List, [], ◌∷◌, ◌++◌, length, length-append, refl, ap, sym, subst, ◌∙◌, arith}
-use Rattle.std.specs.Prelude.{filter, slice_set, IsSome}
+use Rattle.std.specs.Prelude.{filter, slice_set, IsSome, IfSome}
 use Rattle.std.specs.List.{AllByRecursion}
-use Rattle.std.specs.FinMap.{FinMap, get, insert}
+use Rattle.std.specs.FinMap as fin
+use Rattle.std.specs.FinMap.{FinMap, get, insert, get-empty}
+use Rattle.std.specs.Ordering.{nat_cmp}
 use Rattle.std.specs.declared.option.Option.{Option}
 use Rattle.std.specs.declared.option.Option.TheVariants.{None, Some}
 use Rattle.slab.specs.Slab as slab
@@ -18,15 +20,23 @@ use Rattle.lock_table.specs.declared.node.Side.TheVariants as side
 use Rattle.lock_table.specs.declared.heads.Head.{Head}
 use Rattle.lock_table.specs.declared.nodes.Nodes.{Nodes}
 use Rattle.lock_table.specs.Tags.{PageTag, same_txn}
-use Rattle.lock_table.specs.Inside.{Entry, Stand, Lacks, Differ, IsLinked, IsList, IsTable, on, of, gap_of, upto, from, tag_in, tag_at, tag_of_node, link_at, link_of_node, head_in, head_with, kept, shorter, changed, rejoined, unlinked, joined, both_to, settled}
+use Rattle.lock_table.specs.Inside.{Entry, Stand, Lacks, Differ, IsLinked, IsList, IsTable, AreOrdered, Ascend, places, on, of, gap_of, upto, from, tag_in, tag_at, tag_of_node, link_at, link_of_node, head_in, head_with, kept, shorter, changed, rejoined, unlinked, joined, both_to, settled}
 use Rattle.lock_table.specs.Moving.{to_page}
-use Rattle.lock_table.proofs.Writes.{Held, rejoined_same, rejoined_held, rejoined_absent}
+use Rattle.lock_table.proofs.Writes.{Held, rejoined_tag, rejoined_same, rejoined_held, rejoined_absent}
 use Rattle.lock_table.proofs.Filters.{mid_yes, all_filter, Here}
 use Rattle.lock_table.proofs.Tables.{removed_by, txn_kept, txn_itself, of_txn}
-use Rattle.lock_table.proofs.Added.{fresh, added_by, reheaded}
+use Rattle.lock_table.proofs.Added.{fresh, still_here, added_by, reheaded}
 
 is_held : (s : Slab Node) (key : ℕ) (n : Node) → slab.get s key ≡ Some n → IsSome (slab.get s key)
 is_held s key n is = subst (λ (o : Option Node). IsSome o) (sym is) refl
+
+-- no order is kept
+no_orders : (es : List Entry) → AreOrdered fin.empty es
+no_orders es p = subst (λ (o : Option (List ℕ)). IfSome o (λ x. x ≡ places (filter (on p) es))) (sym (get-empty nat_cmp p)) tt
+
+tags_stay : (f g : ℕ → Option PageTag) → ((e : ℕ) → g e ≡ f e) → (es : List Entry) → Here f es → Here g es
+tags_stay f g same [] h = tt
+tags_stay f g same (e ∷ es) h = (same e.0 ∙ h.0, tags_stay f g same es h.1)
 
 -- a list whose nodes keep their links
 same_links : (f g : ℕ → Option Link) (q m : Option ℕ) (es : List Entry) → AllByRecursion (λ e. g e.0 ≡ f e.0) es → IsLinked f q es m → IsLinked g q es m
@@ -65,9 +75,9 @@ module _ (s : Nodes) (n : Node) (key : ℕ) (xs ys : List Entry) where
     holed : Updates s.slab hole key None
     holed = Updates-set s.slab hole key None (ContainsKey-within s.slab key (is_held s.slab key n node)) refl
 
-    without : IsTable gone left.pages fewer (xs ++ ys)
+    without : IsTable gone left.pages fewer fin.empty (xs ++ ys)
     unfolding gone
-    without = removed_by s.slab hole (rejoined side.Page hole n.on_page n.on_page) gone s.pages left.pages s.txns fewer n key xs ys node holed refl refl refl refl l
+    without = removed_by s.slab hole (rejoined side.Page hole n.on_page n.on_page) gone s.pages left.pages s.txns fewer s.orders fin.empty n key xs ys node holed refl refl refl refl l (no_orders (xs ++ ys))
 
     vacant : slab.get gone key ≡ None
     unfolding gone
@@ -103,6 +113,12 @@ module _ (s : Nodes) (n : Node) (key : ℕ) (xs ys : List Entry) where
     pub rest_here : Here (tag_at left.slab) (filter (of n.tag.txn) (xs ++ ys))
     rest_here = all_filter (λ e. tag_at left.slab e.0 ≡ Some e.1) (of_txn n.tag.txn) (xs ++ ys) (here_left (xs ++ ys) apart without.here)
 
+    pub left_here : Here (tag_at left.slab) (xs ++ (key, tag_in n) ∷ ys)
+    left_here = tags_stay (tag_at s.slab) (tag_at left.slab) (λ e. rejoined_tag side.Txn (rejoined side.Page s.slab n.on_page n.on_page) n.of_txn n.of_txn e ∙ rejoined_tag side.Page s.slab n.on_page n.on_page e) (xs ++ (key, tag_in n) ∷ ys) l.here
+
+    pub rest_ascend : Ascend (xs ++ ys)
+    rest_ascend = without.ascend
+
     module _ (to : Page) (a b : Link) where
       abbrev new : Node
       new = record { page = to; tag = n.tag; on_page = a; of_txn = b }
@@ -120,6 +136,12 @@ module _ (s : Nodes) (n : Node) (key : ℕ) (xs ys : List Entry) where
             others = λ e other. ap (λ (z : Slab Node). slab.get z e) is ∙ (up.others e other ∙ elsewhere e other);
           }
 
+      pub set_tag : tag_at set key ≡ Some (to_page to.0 (tag_in n))
+      set_tag = ap tag_of_node written.changed
+
+      pub set_here : Here (tag_at set) (xs ++ ys)
+      set_here = still_here gone set key (Some new) written (xs ++ ys) apart without.here
+
       abbrev more : FinMap txn_cmp Head
       more = kept fewer n.tag.txn (Some (head_with (head_in (get fewer n.tag.txn)) key b))
 
@@ -130,13 +152,15 @@ module _ (s : Nodes) (n : Node) (key : ℕ) (xs ys : List Entry) where
       heads : (q : Txn) → head_in (get (insert s.txns n.tag.txn (head_with rest key b)) q) ≡ head_in (get more q)
       heads q = txn_kept s.txns n.tag.txn (Some (head_with rest key b)) q ∙ (head_by q (same_txn q n.tag.txn) refl ∙ sym (txn_kept fewer n.tag.txn (Some (head_with (head_in (get fewer n.tag.txn)) key b)) q))
 
-      abbrev after : Nodes
-      after = joined (record { slab = set; pages = left.pages; txns = s.txns }) key to.0 a b
+      module _ (orders : FinMap nat_cmp (List ℕ)) where
+        abbrev after : Nodes
+        after = joined (record { slab = set; pages = left.pages; txns = s.txns; orders = orders }) key to.0 a b
 
-      pub moved_node : a ≡ gap_of (upto (to_page to.0 (tag_in n)) (filter (on to.0) (xs ++ ys))) (from (to_page to.0 (tag_in n)) (filter (on to.0) (xs ++ ys)))
-          → b ≡ gap_of (upto (to_page to.0 (tag_in n)) (filter (of n.tag.txn) (xs ++ ys))) (from (to_page to.0 (tag_in n)) (filter (of n.tag.txn) (xs ++ ys)))
-          → Lacks (to_page to.0 (tag_in n)) (xs ++ ys)
-          → IsTable after.slab after.pages (insert s.txns n.tag.txn (head_with rest key b)) (upto (to_page to.0 (tag_in n)) (xs ++ ys) ++ (key, to_page to.0 (tag_in n)) ∷ from (to_page to.0 (tag_in n)) (xs ++ ys))
-      moved_node at_page at_txn lacks =
-          let done = added_by gone set (rejoined side.Page set a (both_to key)) after.slab left.pages after.pages fewer more new key (xs ++ ys) vacant written refl refl refl refl at_page at_txn lacks without in
-          reheaded after.slab after.slab.capacity after.pages after.pages more (insert s.txns n.tag.txn (head_with rest key b)) (upto (to_page to.0 (tag_in n)) (xs ++ ys) ++ (key, to_page to.0 (tag_in n)) ∷ from (to_page to.0 (tag_in n)) (xs ++ ys)) (λ p. refl) heads done
+        pub moved_node : a ≡ gap_of (upto (to_page to.0 (tag_in n)) (filter (on to.0) (xs ++ ys))) (from (to_page to.0 (tag_in n)) (filter (on to.0) (xs ++ ys)))
+            → b ≡ gap_of (upto (to_page to.0 (tag_in n)) (filter (of n.tag.txn) (xs ++ ys))) (from (to_page to.0 (tag_in n)) (filter (of n.tag.txn) (xs ++ ys)))
+            → Lacks (to_page to.0 (tag_in n)) (xs ++ ys)
+            → AreOrdered orders (upto (to_page to.0 (tag_in n)) (xs ++ ys) ++ (key, to_page to.0 (tag_in n)) ∷ from (to_page to.0 (tag_in n)) (xs ++ ys))
+            → IsTable after.slab after.pages (insert s.txns n.tag.txn (head_with rest key b)) orders (upto (to_page to.0 (tag_in n)) (xs ++ ys) ++ (key, to_page to.0 (tag_in n)) ∷ from (to_page to.0 (tag_in n)) (xs ++ ys))
+        moved_node at_page at_txn lacks o =
+            let done = added_by gone set (rejoined side.Page set a (both_to key)) after.slab left.pages after.pages fewer more fin.empty orders new key (xs ++ ys) vacant written refl refl refl refl at_page at_txn lacks without o in
+            reheaded after.slab after.slab.capacity after.pages after.pages more (insert s.txns n.tag.txn (head_with rest key b)) orders (upto (to_page to.0 (tag_in n)) (xs ++ ys) ++ (key, to_page to.0 (tag_in n)) ∷ from (to_page to.0 (tag_in n)) (xs ++ ys)) (λ p. refl) heads done

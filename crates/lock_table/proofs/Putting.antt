@@ -249,10 +249,11 @@ one_put page key t es s l =
 
 -- ---- the room is taken, and nothing else has changed
 
-pub reserved_same : (r u s : Nodes) (slab' : Slab Node) → IsSame r u → slab' ≡ record u.slab { capacity = slab'.capacity } → s.slab ≡ slab' → s.pages ≡ u.pages → ((x : Txn) → head_in (get s.txns x) ≡ head_in (get u.txns x)) → IsSame r s
-reserved_same r u s slab' same is slab_is pages_is heads =
+pub reserved_same : (r u s : Nodes) (slab' : Slab Node) → IsSame r u → slab' ≡ record u.slab { capacity = slab'.capacity } → s.slab ≡ slab' → s.pages ≡ u.pages → s.orders ≡ u.orders → ((x : Txn) → head_in (get s.txns x) ≡ head_in (get u.txns x)) → IsSame r s
+reserved_same r u s slab' same is slab_is pages_is orders_is heads =
     let is' : s.slab ≡ record u.slab { capacity = s.slab.capacity } = slab_is ∙ (is ∙ ap (λ (z : Slab Node). record u.slab { capacity = z.capacity }) (sym slab_is)) in
-    same_then r u s same (same_by u s.slab s.pages s.txns is' (λ p. ap (λ (m : FinMap nat_cmp Head). head_in (get m p)) pages_is) heads)
+    same_then r u s same (subst (λ (o : FinMap nat_cmp (List ℕ)). IsSame u (record { slab = s.slab; pages = s.pages; txns = s.txns; orders = o })) (sym orders_is)
+    (same_by u s.slab s.pages s.txns is' (λ p. ap (λ (m : FinMap nat_cmp Head). head_in (get m p)) pages_is) heads))
 
 pub no_tags_left : (ts : List Tag) → length ts ≡ 0 → ts ≡ []
 no_tags_left [] h = refl

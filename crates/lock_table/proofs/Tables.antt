@@ -19,7 +19,7 @@ use Rattle.lock_table.specs.declared.node.Node.{Node}
 use Rattle.lock_table.specs.declared.node.Side.TheVariants as side
 use Rattle.lock_table.specs.declared.heads.Head.{Head}
 use Rattle.lock_table.specs.Tags.{PageTag, is_on, same_txn, tag_cmp}
-use Rattle.lock_table.specs.Inside.{Entry, gap_of, Differ, AreApart, Ascend, IsIn, IsList, IsTable, on, of, tag_in, head_in, shorter, kept, rejoined, tag_at, link_at, tag_of_node, link_of_node}
+use Rattle.lock_table.specs.Inside.{Entry, gap_of, Differ, AreApart, Ascend, IsIn, IsList, IsTable, AreOrdered, on, of, tag_in, head_in, shorter, kept, rejoined, tag_at, link_at, tag_of_node, link_of_node}
 use Rattle.lock_table.proofs.Writes.{turned_at, rejoined_tag, rejoined_link, rejoined_other}
 use Rattle.lock_table.proofs.Segments.{Turns}
 use Rattle.lock_table.proofs.Filters.{by, mid_no, all_filter, passes, Exclude, Here, lists_differ}
@@ -199,7 +199,7 @@ txn_kept m k o q = kept_at txn_cmp-total m k o q ∙ ap (λ (b : Bool). cond b (
 abbrev pub of_txn : Txn → PageTag → Bool
 of_txn x t = same_txn t.txn x
 
-module _ (s t : Slab Node) (pages : FinMap nat_cmp Head) (txns : FinMap txn_cmp Head) (n : Node) (key : ℕ) (xs ys : List Entry) where
+module _ (s t : Slab Node) (pages : FinMap nat_cmp Head) (txns : FinMap txn_cmp Head) (orders orders' : FinMap nat_cmp (List ℕ)) (n : Node) (key : ℕ) (xs ys : List Entry) where
   abbrev page : ℕ
   page = n.page.0
 
@@ -209,7 +209,7 @@ module _ (s t : Slab Node) (pages : FinMap nat_cmp Head) (txns : FinMap txn_cmp 
   abbrev mid : List Entry
   mid = xs ++ (key, tag_in n) ∷ ys
 
-  module _ (node : slab.get s key ≡ Some n) (w : Relinks s t key n.on_page n.on_page n.of_txn n.of_txn) (gone : tag_at t key ≡ None) (l : IsTable s pages txns (xs ++ (key, tag_in n) ∷ ys)) where
+  module _ (node : slab.get s key ≡ Some n) (w : Relinks s t key n.on_page n.on_page n.of_txn n.of_txn) (gone : tag_at t key ≡ None) (l : IsTable s pages txns orders (xs ++ (key, tag_in n) ∷ ys)) (o : AreOrdered orders' (xs ++ ys)) where
     page_less : (p : ℕ) (b : Bool) → nat_eq p page ≡ b
         → IsList (link_at side.Page t) (cond b (head_in (shorter (head_in (get pages page)) n.on_page)) (head_in (get pages p))) (filter (on p) (xs ++ ys))
     page_less p true e =
@@ -242,7 +242,7 @@ module _ (s t : Slab Node) (pages : FinMap nat_cmp Head) (txns : FinMap txn_cmp 
     differ_rest : Differ key (xs ++ ys)
     differ_rest = differ_both (link_at side.Page s) (link_at side.Page t) (is_on page) key (tag_in n) xs ys l.apart
 
-    pub removed : IsTable t (kept pages page (shorter (head_in (get pages page)) n.on_page)) (kept txns txn (shorter (head_in (get txns txn)) n.of_txn)) (xs ++ ys)
+    pub removed : IsTable t (kept pages page (shorter (head_in (get pages page)) n.on_page)) (kept txns txn (shorter (head_in (get txns txn)) n.of_txn)) orders' (xs ++ ys)
     removed =
         record {
           ascend = ascend_without (key, tag_in n) xs ys l.ascend;
@@ -253,32 +253,33 @@ module _ (s t : Slab Node) (pages : FinMap nat_cmp Head) (txns : FinMap txn_cmp 
               subst (λ (h : Head). IsList (link_at side.Page t) h (filter (on p) (xs ++ ys))) (sym (page_kept pages page (shorter (head_in (get pages page)) n.on_page) p)) (page_less p (nat_eq p page) refl);
           txn = λ x.
               subst (λ (h : Head). IsList (link_at side.Txn t) h (filter (of x) (xs ++ ys))) (sym (txn_kept txns txn (shorter (head_in (get txns txn)) n.of_txn) x)) (txn_less x (same_txn x txn) refl);
+          order = o;
         }
 
 -- what the code makes of the slab and of the heads
-pub removed_by : (s u v t : Slab Node) (pages pages' : FinMap nat_cmp Head) (txns txns' : FinMap txn_cmp Head) (n : Node) (key : ℕ) (xs ys : List Entry)
+pub removed_by : (s u v t : Slab Node) (pages pages' : FinMap nat_cmp Head) (txns txns' : FinMap txn_cmp Head) (orders orders' : FinMap nat_cmp (List ℕ)) (n : Node) (key : ℕ) (xs ys : List Entry)
     → slab.get s key ≡ Some n → Updates s u key None → v ≡ rejoined side.Page u n.on_page n.on_page → t ≡ rejoined side.Txn v n.of_txn n.of_txn
     → pages' ≡ kept pages n.page.0 (shorter (head_in (get pages n.page.0)) n.on_page) → txns' ≡ kept txns n.tag.txn (shorter (head_in (get txns n.tag.txn)) n.of_txn)
-    → IsTable s pages txns (xs ++ (key, tag_in n) ∷ ys) → IsTable t pages' txns' (xs ++ ys)
-removed_by s u v t pages pages' txns txns' n key xs ys node up v_is t_is pages_is txns_is l =
+    → IsTable s pages txns orders (xs ++ (key, tag_in n) ∷ ys) → AreOrdered orders' (xs ++ ys) → IsTable t pages' txns' orders' (xs ++ ys)
+removed_by s u v t pages pages' txns txns' orders orders' n key xs ys node up v_is t_is pages_is txns_is l o =
     let r : Slab Node = relinked u n.on_page n.on_page n.of_txn n.of_txn in
     let t_is' : t ≡ r = t_is ∙ ap (λ (z : Slab Node). rejoined side.Txn z n.of_txn n.of_txn) v_is in
     let w : Relinks s r key n.on_page n.on_page n.of_txn n.of_txn = relinks s u key None n.on_page n.on_page n.of_txn n.of_txn up in
     let gone : tag_at r key ≡ None = rejoined_tag side.Txn (rejoined side.Page u n.on_page n.on_page) n.of_txn n.of_txn key ∙ (rejoined_tag side.Page u n.on_page n.on_page key ∙ ap tag_of_node up.changed) in
-    let done = removed s r pages txns n key xs ys node w gone l in
-    subst (λ (z : Slab Node). IsTable z pages' txns' (xs ++ ys)) (sym t_is')
-    (subst (λ (m : FinMap nat_cmp Head). IsTable r m txns' (xs ++ ys)) (sym pages_is)
-    (subst (λ (m : FinMap txn_cmp Head). IsTable r (kept pages n.page.0 (shorter (head_in (get pages n.page.0)) n.on_page)) m (xs ++ ys)) (sym txns_is) done))
+    let done = removed s r pages txns orders orders' n key xs ys node w gone l o in
+    subst (λ (z : Slab Node). IsTable z pages' txns' orders' (xs ++ ys)) (sym t_is')
+    (subst (λ (m : FinMap nat_cmp Head). IsTable r m txns' orders' (xs ++ ys)) (sym pages_is)
+    (subst (λ (m : FinMap txn_cmp Head). IsTable r (kept pages n.page.0 (shorter (head_in (get pages n.page.0)) n.on_page)) m orders' (xs ++ ys)) (sym txns_is) done))
 
 -- the tag of a node that stands in the table
-pub tag_there : (s : Slab Node) (pages : FinMap nat_cmp Head) (txns : FinMap txn_cmp Head) (n : Node) (key : ℕ) (t : PageTag) (xs ys : List Entry) → slab.get s key ≡ Some n → IsTable s pages txns (xs ++ (key, t) ∷ ys) → t ≡ tag_in n
-tag_there s pages txns n key t xs ys node l =
+pub tag_there : (s : Slab Node) (pages : FinMap nat_cmp Head) (txns : FinMap txn_cmp Head) (orders : FinMap nat_cmp (List ℕ)) (n : Node) (key : ℕ) (t : PageTag) (xs ys : List Entry) → slab.get s key ≡ Some n → IsTable s pages txns orders (xs ++ (key, t) ∷ ys) → t ≡ tag_in n
+tag_there s pages txns orders n key t xs ys node l =
     let same : Some t ≡ Some (tag_in n) = sym (all_at (λ e. tag_at s e.0 ≡ Some e.1) (key, t) xs ys l.here) ∙ ap tag_of_node node in
     cc (same)
 
 -- no tags
-pub none_stand : (s : Slab Node) (pages : FinMap nat_cmp Head) (txns : FinMap txn_cmp Head) → ((k : ℕ) → slab.get s k ≡ None) → ((p : ℕ) → get pages p ≡ None) → ((x : Txn) → get txns x ≡ None) → IsTable s pages txns []
-none_stand s pages txns ns np nt =
+pub none_stand : (s : Slab Node) (pages : FinMap nat_cmp Head) (txns : FinMap txn_cmp Head) (orders : FinMap nat_cmp (List ℕ)) → ((k : ℕ) → slab.get s k ≡ None) → ((p : ℕ) → get pages p ≡ None) → ((x : Txn) → get txns x ≡ None) → AreOrdered orders [] → IsTable s pages txns orders []
+none_stand s pages txns orders ns np nt empty =
     record {
       ascend = tt;
       apart = tt;
@@ -286,4 +287,5 @@ none_stand s pages txns ns np nt =
       all = λ k h. let none : tag_at s k ≡ None = ap tag_of_node (ns k) in absurd (cc (none, h));
       page = λ p. record { first = ap (λ (o : Option Head). (head_in o).first) (np p); count = ap (λ (o : Option Head). (head_in o).count) (np p); linked = tt };
       txn = λ x. record { first = ap (λ (o : Option Head). (head_in o).first) (nt x); count = ap (λ (o : Option Head). (head_in o).count) (nt x); linked = tt };
+      order = empty;
     }

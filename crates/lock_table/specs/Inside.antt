@@ -1,5 +1,6 @@
 -- Tags as nodes of a slab, each in two lists that are linked by index.
-use Rattle.std.specs.Prelude.{◌≡◌, ◌≢◌, ◌⊎◌, ◌+◌, ◌-◌, ◌^◌, ◌<◌, ℕ, Bool, true, false, List, [], ◌∷◌, length, filter, IsSome, nat_le, nat_eq, cond, filter_map}
+use Rattle.std.specs.Prelude.{◌≡◌, ◌≢◌, ◌⊎◌, ◌+◌, ◌-◌, ◌^◌, ◌<◌, ℕ, Bool, true, false, List, [], ◌∷◌, length, filter, IsSome, is_some, IfSome, not, ◌&&◌, nat_le, nat_eq, cond, filter_map}
+use Rattle.std.specs.Prelude.{map as list_map}
 use Rattle.std.specs.List.{AllByRecursion}
 use Rattle.std.specs.Ordering.{nat_cmp, is_lt, is_eq}
 use Rattle.std.specs.FinMap.{FinMap}
@@ -148,15 +149,33 @@ on page e = is_on page e.1
 abbrev pub of : Txn → Entry → Bool
 of txn e = same_txn e.1.txn txn
 
+-- The places of a list.
+abbrev pub places : List Entry → List ℕ
+places es = list_map (λ e. e.0) es
+
+-- The order of a page, where one is kept, has the places of the page's list.
+abbrev pub AreOrdered : FinMap nat_cmp (List ℕ) → List Entry → Type 0
+AreOrdered orders es = (p : ℕ) → IfSome (map.get orders p) (λ order. order ≡ places (filter (on p) es))
+
 -- All nodes, ascending by page, key and transaction: the list of a page and that of a transaction are what stands
 -- among them on the page, and of the transaction.
-pub record IsTable (slab : Slab Node) (pages : FinMap nat_cmp Head) (txns : FinMap txn_cmp Head) (es : List Entry) : Type 0 where
+pub record IsTable (slab : Slab Node) (pages : FinMap nat_cmp Head) (txns : FinMap txn_cmp Head) (orders : FinMap nat_cmp (List ℕ)) (es : List Entry) : Type 0 where
   pub ascend : Ascend es
   pub apart : AreApart es
   pub here : AllByRecursion (λ e. tag_at slab e.0 ≡ Some e.1) es
   pub all : (key : ℕ) → IsSome (tag_at slab key) → IsIn key es
   pub page : (p : ℕ) → IsList (link_at side.Page slab) (head_in (map.get pages p)) (filter (on p) es)
   pub txn : (t : Txn) → IsList (link_at side.Txn slab) (head_in (map.get txns t)) (filter (of t) es)
+  pub order : AreOrdered orders es
+
+-- The order of a page is this one now, or isn't kept.
+abbrev pub Reorders : FinMap nat_cmp (List ℕ) → FinMap nat_cmp (List ℕ) → ℕ → List ℕ → Type 0
+Reorders old new page order = (new ≡ map.insert old page order) ⊎ (new ≡ map.remove old page)
+
+-- The places of an order that may not be kept.
+abbrev pub places_in : Option (List ℕ) → List ℕ
+places_in None = []
+places_in (Some order) = order
 
 -- What is kept in place of a head.
 abbrev pub kept : {K : Type 0} {R : K → K → Ordering} → FinMap R Head → K → Option Head → FinMap R Head
@@ -168,13 +187,17 @@ shorter head link = head_without head link (nat_le head.count 1)
 
 -- The nodes stand in their lists.
 abbrev pub Stand : Nodes → List Entry → Type 0
-Stand n es = IsTable n.slab n.pages n.txns es
+Stand n es = IsTable n.slab n.pages n.txns n.orders es
 
 -- ---- the place of a tag
 
 -- Between these parts of a list.
 abbrev pub gap_of : List Entry → List Entry → Link
 gap_of xs ys = record { prev = last_of None xs; next = head_of ys None }
+
+-- Nothing stands before the gap or behind it.
+abbrev pub is_all : Link → Bool
+is_all gap = not (is_some gap.prev) && not (is_some gap.next)
 
 -- The front of a list as far as its tags are below this one, and the rest.
 abbrev pub upto : PageTag → List Entry → List Entry
@@ -226,6 +249,7 @@ unlinked n page on_page of_txn =
       slab = rejoined side.Txn (rejoined side.Page n.slab on_page on_page) of_txn of_txn;
       pages = kept n.pages page (shorter (head_in (map.get n.pages page)) on_page);
       txns = n.txns;
+      orders = n.orders;
     }
 
 -- The nodes after one has come into these gaps, up to the head of its transaction's list.
@@ -238,6 +262,7 @@ joined n key page on_page of_txn =
       slab = rejoined side.Txn (rejoined side.Page n.slab on_page (both_to key)) of_txn (both_to key);
       pages = kept n.pages page (Some (head_with (head_in (map.get n.pages page)) key on_page));
       txns = n.txns;
+      orders = n.orders;
     }
 
 -- The node on another page, in these gaps.

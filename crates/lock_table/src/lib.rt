@@ -9,6 +9,8 @@
 mod heads;
 mod node;
 mod nodes;
+mod orders;
+mod seek;
 mod tags;
 #[cfg(test)]
 mod tests;

@@ -1,7 +1,7 @@
 //! The nodes of the lists, and how they are linked.
 ghost use Rattle.std.specs.Prelude.{◌≡◌};
 ghost use Rattle.slab.specs.Slab.{get};
-ghost use Rattle.lock_table.specs.Inside.{link_in, with_next, with_prev, rejoined, changed, settled};
+ghost use Rattle.lock_table.specs.Inside.{link_in, with_next, with_prev, rejoined, changed, settled, is_all};
 
 use slab::Slab;
 use tm_base::{Page, Tag};
@@ -11,6 +11,15 @@ use tm_base::{Page, Tag};
 pub(crate) struct Link {
     pub(crate) prev: Option<usize>,
     pub(crate) next: Option<usize>,
+}
+
+impl Link {
+    /// Whether nothing stands before this gap or behind it.
+    pub(crate) fn is_all(self) -> bool
+        ensures { result ≡ is_all self }
+    {
+        self.prev.is_none() && self.next.is_none()
+    }
 }
 
 /// A tag on a page, in the list of its page and in that of its transaction.

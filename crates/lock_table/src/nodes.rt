@@ -13,9 +13,10 @@ ghost use Rattle.lock_table.specs.Inside.{foreign_in, other_in, least, head_of, 
 
 use crate::heads::{Head, PageHeads, set_txn};
 use crate::node::{Link, Node, Side, rejoin, settle};
+use crate::orders::PageOrders;
+use crate::seek::{compare, enter, gap_in, strike};
 use slab::Slab;
 use std::alloc::Global;
-use std::cmp::Ordering;
 use std::marker::Brand;
 use std::sync::ledger::{Blank, Ledger};
 use tm_base::{Key, Mem, NoMemory, Page, Steps, Tag, Txn, TxnMap, Writer};
@@ -26,6 +27,7 @@ pub(crate) struct Nodes {
     slab: Slab<Node>,
     pages: PageHeads,
     txns: TxnMap<Head>,
+    orders: PageOrders,
 }
 
 // A list of more tags takes no further one: no memory has room for so many.
@@ -72,14 +74,6 @@ fn shorten_txn(txns: &mut TxnMap<Head>, txn: Txn, link: Link)
             txns.remove(&txn);
         }
     }
-}
-
-/// How the tag of a node compares with this one: by page, then by key, then by transaction.
-fn compare(node: &Node, page: Page, key: &Key, txn: Txn) -> Ordering
-    ensures { result ≡ tag_cmp (tag_in node.now) (page_tag page.0 key.now txn) }
-{
-    let by_key = node.tag.key.cmp(key).then(node.tag.txn.cmp(&txn));
-    node.page.cmp(&page).then(by_key)
 }
 
 /// The gap of a list in front of the first tag that isn't below this one.
@@ -153,6 +147,7 @@ impl Nodes {
             slab: Slab::new(alloc),
             pages: PageHeads::new(alloc),
             txns: TxnMap::new(alloc),
+            orders: PageOrders::new(alloc),
         }
     }
 
@@ -182,8 +177,18 @@ impl Nodes {
         ensures { (es : List Entry) → Stand self.now es
             → result ≡ gap_of (upto (page_tag page.0 key.now txn) (filter (on page.0) es)) (from (page_tag page.0 key.now txn) (filter (on page.0) es)) }
     {
-        let head = or_empty(self.pages.get(page.0));
-        gap(&self.slab, Side::Page, head, page, key, txn)
+        let Some(order) = self.orders.get(page.0) else {
+            let head = or_empty(self.pages.get(page.0));
+            return gap(&self.slab, Side::Page, head, page, key, txn);
+        };
+        gap_in(&self.slab, order.as_slice(), page, key, txn)
+    }
+
+    /// Drops the order of a page, whose nodes all go: no node is looked for there any more.
+    pub(crate) fn forget(&mut self, page: Page)
+        ensures { IsSame self.old self.new }
+    {
+        self.orders.forget(page.0);
     }
 
     /// The first tag of another writer on a page.
@@ -322,7 +327,9 @@ impl Nodes {
         self.unlink(page, was_on, was_of);
         let rest = or_empty(txn_head.without(was_of));
         let of_txn = self.gap_for(key, rest, to);
+        strike(&mut self.orders, &self.slab, key);
         settle(&mut self.slab, key, to, on_page, of_txn);
+        enter(&mut self.orders, &self.slab, key, on_page);
         self.join(key, to, on_page, of_txn);
         set_txn(&mut self.txns, txn, rest.with(key, of_txn));
     }
@@ -420,6 +427,7 @@ impl Nodes {
             on_page,
             of_txn,
         });
+        enter(&mut self.orders, &self.slab, key, on_page);
         self.join(key, page, on_page, of_txn);
         set_txn(&mut self.txns, txn, txn_head.with(key, of_txn));
     }
@@ -452,7 +460,7 @@ impl Nodes {
 
     /// Makes room for the head of a transaction's list, to which so many tags may come.
     fn open_txn(&mut self, txn: Txn, more: usize) -> Mem<()>
-        ensures rest { (self.new.slab ≡ self.old.slab) × (self.new.pages ≡ self.old.pages) }
+        ensures rest { (self.new.slab ≡ self.old.slab) × (self.new.pages ≡ self.old.pages) × (self.new.orders ≡ self.old.orders) }
         ensures same { (x : Txn) → Stays (map.get self.old.txns x) (map.get self.new.txns x) }
         ensures ok { OnOk result (HasPlace more (map.get self.new.txns txn)) }
     {
@@ -487,6 +495,7 @@ impl Nodes {
         ensures removed { (xs ys : List Entry) (t : PageTag) → Stand self.old (xs ++ (key, t) ∷ ys) → (result ≡ tag_of t) × Stand self.new (xs ++ ys) }
         ensures others { (p : ℕ) → (t : PageTag) → tag_at self.old.slab key ≡ Some t → p ≢ t.page → map.get self.new.pages p ≡ map.get self.old.pages p }
     {
+        strike(&mut self.orders, &self.slab, key);
         let node = self.slab.remove(key);
         self.unlink(node.page, node.on_page, node.of_txn);
         shorten_txn(&mut self.txns, node.tag.txn, node.of_txn);

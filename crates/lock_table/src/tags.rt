@@ -131,6 +131,13 @@ impl Tags {
         Some(tag)
     }
 
+    /// Keeps no order of a page, whose tags all go.
+    fn forget(&mut self, page: Page)
+        ensures { self.new ≡ self.old }
+    {
+        self.nodes.forget(page);
+    }
+
     /// Takes out the tags of a page, each in one step, and gives them, ascending by key and transaction.
     /// With want of memory nothing changes, and no step is taken.
     pub fn take_page<L: Ledger>(&mut self, page: Page, steps: &mut Steps<L>) -> Mem<TagList>
@@ -140,6 +147,7 @@ impl Tags {
         ensures err { OnErr result ((self.new ≡ self.old) × (steps.new ≡ steps.old)) }
     {
         let mut tags = Vec::with_capacity(self.alloc, self.count_on(page))?;
+        self.forget(page);
         while let Some(tag) = self.take_on(page, steps) {
             tags.push(tag)?;
         }

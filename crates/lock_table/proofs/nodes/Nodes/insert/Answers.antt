@@ -1,4 +1,4 @@
-use Rattle.std.proofs.Common.{◌≡◌, ℕ, ◌++◌, ◌∷◌, refl, ap, sym, subst, ◌∙◌}
+use Rattle.std.proofs.Common.{◌≡◌, ℕ, List, ◌++◌, ◌∷◌, refl, ap, sym, subst, ◌∙◌}
 use Rattle.std.specs.Prelude.{filter}
 use Rattle.std.specs.FinMap.{insert}
 use Rattle.std.specs.declared.option.Option.TheVariants.{Some}
@@ -7,10 +7,10 @@ use Rattle.lock_table.specs.declared.node.Node.{Node}
 use Rattle.lock_table.specs.declared.nodes.Nodes.{Nodes}
 use Rattle.lock_table.specs.declared.node.Side.TheVariants as side
 use Rattle.lock_table.specs.Tags.{page_tag}
-use Rattle.lock_table.specs.Inside.{IsTable, IsList, link_at, tag_at, head_in, head_with, of, upto, from, rejoined, both_to}
+use Rattle.lock_table.specs.Inside.{IsTable, IsList, AreOrdered, tag_of_node, link_at, tag_at, head_in, head_with, of, upto, from, rejoined, both_to}
 use Rattle.lock_table.proofs.Filters.{all_filter}
 use Rattle.lock_table.proofs.Tables.{of_txn}
-use Rattle.lock_table.proofs.Added.{added_by}
+use Rattle.lock_table.proofs.Added.{fresh, still_here, added_by}
 use Rattle.std.proofs.Common.{◌+◌, arith}
 use Rattle.std.specs.Ordering.{nat_cmp}
 use Rattle.std.specs.FinMap as map
@@ -36,8 +36,14 @@ returns-clause-stand c = λ es l place lacks.
     let slab_is = ap (λ (z : Nodes). z.slab) c.join.ensures in
     let pages_is = ap (λ (z : Nodes). z.pages) c.join.ensures in
     let txns_is = c.set_txn.ensures ∙ (ap (λ (z : Nodes). insert z.txns x c.with.result) c.join.ensures ∙ ap (λ (h : Head). insert s.txns x h) (c.with.ensures ∙ ap (λ (h : Head). head_with h key c.gap-of_txn.result) ht)) in
-    let done = added_by s.slab c.insert_reserved-key.new.self (rejoined side.Page c.insert_reserved-key.new.self c.args.on_page (both_to key)) j.slab s.pages j.pages s.txns c.set_txn.new.heads n key es c.insert_reserved-key.ensures.was_vacant c.insert_reserved-key.ensures.updates refl slab_is pages_is txns_is place gap_t lacks l in
-    subst (λ (k : ℕ). IsTable j.slab j.pages c.set_txn.new.heads (upto t es ++ (k, t) ∷ from t es)) c.insert_reserved-key.ensures.key done
+    let u = c.insert_reserved-key.new.self in
+    let orders_is : j.orders ≡ c.enter.new.orders = ap (λ (z : Nodes). z.orders) c.join.ensures in
+    let apart = fresh s.slab key (ap tag_of_node c.insert_reserved-key.ensures.was_vacant) es l.here in
+    let here = still_here s.slab u key (Some n) c.insert_reserved-key.ensures.updates es apart l.here in
+    let entered = c.enter.ensures es t (ap tag_of_node c.insert_reserved-key.ensures.updates.changed) l.ascend here place l.order in
+    let ordered = subst (λ (z : FinMap nat_cmp (List ℕ)). AreOrdered z (upto t es ++ (key, t) ∷ from t es)) (sym orders_is) entered in
+    let done = added_by s.slab c.insert_reserved-key.new.self (rejoined side.Page c.insert_reserved-key.new.self c.args.on_page (both_to key)) j.slab s.pages j.pages s.txns c.set_txn.new.heads s.orders j.orders n key es c.insert_reserved-key.ensures.was_vacant c.insert_reserved-key.ensures.updates refl slab_is pages_is txns_is place gap_t lacks l ordered in
+    subst (λ (k : ℕ). IsTable j.slab j.pages c.set_txn.new.heads j.orders (upto t es ++ (k, t) ∷ from t es)) c.insert_reserved-key.ensures.key done
 
 pub returns-clause-room : goal.returns-clause-room
 returns-clause-room c = λ more h.

@@ -61,7 +61,7 @@ pub returns-then-eq-clause-moved : goal.returns-then-eq-clause-moved
 returns-then-eq-clause-moved c = λ xs ys t l apart.
     let s = c.args.self.now in
     let n : Node = c.in-Some.node.now in
-    let same : t ≡ tag_in n = tag_there s.slab s.pages s.txns n c.args.key t xs ys (sym c.in-Some.ensures) l in
+    let same : t ≡ tag_in n = tag_there s.slab s.pages s.txns s.orders n c.args.key t xs ys (sym c.in-Some.ensures) l in
     let page : t.page ≡ n.page.0 = ap (λ (z : PageTag). z.page) same in
     let tied : nat_eq n.page.0 c.args.to.0 ≡ true = sym c.eq.ensures ∙ c.if-eq.true in
     let at : c.args.to.0 ≡ n.page.0 = grind (arith, nat_tests) in
@@ -73,7 +73,7 @@ returns-then-holds-clause-moved c = λ xs ys t l apart.
     let n : Node = c.in-Some.node.now in
     let key = c.args.key in
     let node : slab.get s.slab key ≡ Some n = sym c.in-Some.ensures in
-    let same : t ≡ tag_in n = tag_there s.slab s.pages s.txns n key t xs ys node l in
+    let same : t ≡ tag_in n = tag_there s.slab s.pages s.txns s.orders n key t xs ys node l in
     let l' : Stand s (xs ++ (key, tag_in n) ∷ ys) = subst (λ (z : PageTag). Stand s (xs ++ (key, z) ∷ ys)) same l in
     let apart' : c.args.to.0 ≢ n.page.0 = subst (λ (z : PageTag). c.args.to.0 ≢ z.page) same apart in
     subst (λ (z : PageTag). (n.on_page.next ≡ head_of (filter (on z.page) ys) None) × Moves key c.args.to.0 z (xs ++ ys) c.merge.new.self) (sym same)
@@ -86,7 +86,7 @@ returns-clause-moved c = λ xs ys t l apart.
     let key = c.args.key in
     let to = c.args.to.0 in
     let node : slab.get s.slab key ≡ Some n = sym c.in-Some.ensures in
-    let same : t ≡ tag_in n = tag_there s.slab s.pages s.txns n key t xs ys node l in
+    let same : t ≡ tag_in n = tag_there s.slab s.pages s.txns s.orders n key t xs ys node l in
     let l' : Stand s (xs ++ (key, tag_in n) ∷ ys) = subst (λ (z : PageTag). Stand s (xs ++ (key, z) ∷ ys)) same l in
     let apart' : to ≢ n.page.0 = subst (λ (z : PageTag). to ≢ z.page) same apart in
     let place = c.place-place.ensures (xs ++ (key, tag_in n) ∷ ys) l' in

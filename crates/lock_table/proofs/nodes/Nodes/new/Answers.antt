@@ -1,5 +1,5 @@
-use Rattle.std.proofs.Common.{List, ap, ◌∙◌}
-use Rattle.std.specs.Prelude.{slice_index_or}
+use Rattle.std.proofs.Common.{◌≡◌, ℕ, List, [], ap, sym, subst, ◌∙◌}
+use Rattle.std.specs.Prelude.{slice_index_or, IfSome}
 use Rattle.std.specs.declared.option.Option.{Option}
 use Rattle.std.specs.declared.option.Option.TheVariants.{None}
 use Rattle.std.specs.Ordering.{nat_cmp}
@@ -12,5 +12,6 @@ use Rattle.lock_table.proofs.nodes.Nodes.new.Goals as goal
 
 pub returns : goal.returns
 returns c =
-    none_stand c.new.result c.new-2.result c.new-3.result (λ k. ap (λ (xs : List (Option Node)). slice_index_or xs k None) c.new.ensures.empty)
+    none_stand c.new.result c.new-2.result c.new-3.result c.new-4.result (λ k. ap (λ (xs : List (Option Node)). slice_index_or xs k None) c.new.ensures.empty)
     (λ p. ap (λ (m : FinMap nat_cmp Head). get m p) c.new-2.ensures ∙ get-empty nat_cmp p) (λ x. ap (λ (m : FinMap txn_cmp Head). get m x) c.new-3.ensures ∙ get-empty txn_cmp x)
+    (λ p. subst (λ (o : Option (List ℕ)). IfSome o (λ x. x ≡ [])) (sym (ap (λ (m : FinMap nat_cmp (List ℕ)). get m p) c.new-4.ensures ∙ get-empty nat_cmp p)) tt)

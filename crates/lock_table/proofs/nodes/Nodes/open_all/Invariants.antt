@@ -13,6 +13,7 @@ invariant-loop-tag l =
     record {
       slab : l.self.slab ≡ l.initial.self.slab;
       pages : l.self.pages ≡ l.initial.self.pages;
+      orders : l.self.orders ≡ l.initial.self.orders;
       heads : (x : Txn) → head_in (map.get l.self.txns x) ≡ head_in (map.get l.initial.self.txns x);
       txns : AllByRecursion (λ (t : Tag). HasPlace (length l.tags) (map.get l.self.txns t.txn)) (take l.tag-index l.tags);
     }
