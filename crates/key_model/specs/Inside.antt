@@ -17,15 +17,6 @@ use Rattle.key_model.specs.declared.closing.Ending.{Ending}
 use Rattle.key_model.specs.State.{Open, DyingRow, dying_cmp}
 use Rattle.key_model.specs.After.{same_writer, same_row, locked_row}
 
--- the open transactions, where T has read one more key, or written one, if it is open
-abbrev pub reads_in : fin.FinMap txn_cmp Open → Txn → RowKey → Option Open → fin.FinMap txn_cmp Open
-reads_in opened t key None = opened
-reads_in opened t key (Some touched) = fin.insert opened t (record touched { reads = sets.insert touched.reads key })
-
-abbrev pub writes_in : fin.FinMap txn_cmp Open → Txn → RowKey → Option (List ℕ) → Option Open → fin.FinMap txn_cmp Open
-writes_in opened t key value None = opened
-writes_in opened t key value (Some touched) = fin.insert opened t (record touched { writes = fin.insert touched.writes key value })
-
 -- the entries that have a value
 abbrev pub keep : {K X : Type 0} → K → Option X → List (K × X) → List (K × X)
 keep k None es = es
@@ -71,6 +62,10 @@ HasPlaces m (e ∷ es) = HasPlace m e.0 e.1 × HasPlaces m es
 abbrev pub entries_of : List (RowKey × List ℕ) → List Entry
 entries_of [] = []
 entries_of (e ∷ es) = record { table = e.0.table; key = e.0.key; value = e.1 } ∷ entries_of es
+
+-- below each transaction
+abbrev pub no_txn : Txn
+no_txn = record { writer = record { 0 = 0 }; number = 0 }
 
 -- ---- what a close changes
 

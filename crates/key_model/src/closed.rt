@@ -3,11 +3,12 @@ ghost use Rattle.std.specs.Prelude.{◌≡◌, not, OnOk, OnErr, None};
 ghost use Rattle.std.specs.FinMap as fin;
 ghost use Rattle.std.specs.FinSet as sets;
 ghost use Rattle.key_model.specs.After.{same_writer, locks};
-ghost use Rattle.key_model.specs.Inside.{there, with_rows, HasAll};
+ghost use Rattle.key_model.specs.Inside.{there, with_rows, HasAll, no_txn};
 
 use std::alloc::Global;
 use std::collections::{BTreeMap, BTreeSet};
 use std::marker::Model;
+use std::ops::Bound;
 use tm_base::{ItemList, Mem, NoMemory, RowKey, TryCopy, Txn, Writer};
 
 /// A set of writers. Contracts see the finite set.
@@ -61,6 +62,19 @@ impl WriterSet {
 pub struct DyingRow {
     pub row: RowKey,
     pub txn: Txn,
+}
+
+impl DyingRow {
+    /// The place before those of each transaction at the row: transactions are numbered from 1.
+    pub fn first(row: RowKey) -> DyingRow
+        ensures { result ≡ record { row = row; txn = no_txn } }
+    {
+        let txn = Txn {
+            writer: Writer(0),
+            number: 0,
+        };
+        DyingRow { row, txn }
+    }
 }
 
 impl TryCopy for DyingRow {
@@ -151,12 +165,18 @@ impl DyingMap {
         }
     }
 
-    /// Whether a transaction has locked the row.
-    pub fn locks(&self, key: &RowKey) -> bool
-        ensures { result ≡ locks (sets.items (there self.now)) key.now }
+    /// Whether a transaction has locked the row whose first place is `first`: a look at the places of
+    /// that row alone.
+    pub fn locks(&self, first: &DyingRow) -> bool
+        requires { first.now.txn ≡ no_txn }
+        ensures { result ≡ locks (sets.items (there self.now)) first.now.row }
     {
-        for (dying, place) in self.places.iter() {
-            if place.is_some() && dying.row == *key {
+        let onwards = (Bound::Included(first), Bound::Unbounded);
+        for (dying, place) in self.places.range(onwards) {
+            if dying.row != first.row {
+                return false;
+            }
+            if place.is_some() {
                 return true;
             }
         }

@@ -9,7 +9,6 @@ mod closing;
 mod events;
 pub mod laws;
 mod machine;
-mod opened;
 mod sessions;
 mod settled;
 mod step;
