@@ -1,4 +1,4 @@
--- Each open transaction is among the holders of what it has written.
+-- Each open transaction is among the holders of what it has written, and of what it has read.
 use Rattle.std.specs.Prelude.{◌≡◌, ℕ, List, [], ◌∷◌, Bool, true, false, cond, not, ◌||◌, ◌&&◌, Some, None, OnOk, OnErr, Ok, Err, is_some}
 use Rattle.std.proofs.Common.{refl, sym, ◌∙◌, ap, subst}
 use Rattle.std.specs.declared.option.Option.{Option}
@@ -12,12 +12,13 @@ use Rattle.std.specs.BTreeMap.{is_at}
 use Rattle.std.specs.BTreeSet.{insert_key}
 use Rattle.std.specs.Set.{remove_key}
 use Rattle.std.specs.FinMap as fin
+use Rattle.std.specs.FinSet as sets
 use Rattle.tm_data.specs.declared.transaction.Txn.{Txn}
 use Rattle.tm_data.specs.declared.row_map.RowKey.{RowKey}
 use Rattle.tm_data.specs.Orders.{row_cmp, row_cmp-total, row_cmp-exact, txn_cmp, txn_cmp-total, txn_cmp-exact}
 use Rattle.key_index.specs.Holders.{Holders, with_holder, struck, without_holder, tidied, is_bare}
 use Rattle.key_index.specs.declared.opened.Open.{Open}
-use Rattle.key_index.specs.Touched.{untouched, same_txn, wrote_by_other, is_among, wrote_at, CoversWrites, StillAmong}
+use Rattle.key_index.specs.Touched.{untouched, same_txn, wrote, read, is_among, has_at, Covers, StillAmong}
 use Rattle.key_index.proofs.AnyLemmas.{true_or_false, not_both, equal, itself, none_passes, each_fails, get-kept}
 
 abbrev Opened : Type 0
@@ -94,63 +95,73 @@ now_with index key t = by (fin.get index key)
     by (Some ts) =
         ap (λ o. is_among o t) (at (insert_key txn_cmp ts t)) ∙ any_added txn_cmp (is_at (txn_cmp t)) t ts (λ x is. ap is_eq is) (own t)
 
--- ---- what is written
+-- ---- what is written, or read
 
--- what is written in n is written in m
-abbrev pub WritesNoMore : Opened → Opened → Type 0
-WritesNoMore m n = (t : Txn) (k : RowKey) → wrote_at (fin.get n t) k ≡ true → wrote_at (fin.get m t) k ≡ true
+module _ (has : Open → RowKey → Bool) where
+  -- what n has, m has
+  abbrev pub NoMore : Opened → Opened → Type 0
+  NoMore m n = (t : Txn) (k : RowKey) → has_at has (fin.get n t) k ≡ true → has_at has (fin.get m t) k ≡ true
 
-pub covers_less : (m n : Opened) (index : Holders) → CoversWrites m index → WritesNoMore m n → CoversWrites n index
-covers_less m n index covers less t k h = covers t k (less t k h)
+  pub covers_less : (m n : Opened) (index : Holders) → Covers has m index → NoMore m n → Covers has n index
+  covers_less m n index covers less t k h = covers t k (less t k h)
 
-pub covers_none : (m : Opened) (index : Holders) → m ≡ fin.empty → CoversWrites m index
-covers_none m index is t k h = absurd (not_both _ h (ap (λ n. wrote_at (fin.get n t) k) is ∙ ap (λ o. wrote_at o k) (fin.get-empty txn_cmp t)))
+  pub covers_none : (m : Opened) (index : Holders) → m ≡ fin.empty → Covers has m index
+  covers_none m index is t k h = absurd (not_both _ h (ap (λ n. has_at has (fin.get n t) k) is ∙ ap (λ o. has_at has o k) (fin.get-empty txn_cmp t)))
 
-pub less_kept : (m : Opened) (p : Txn → Bool) → WritesNoMore m (fin.retain_keys m p)
-less_kept m p t k h = by (p t) (sym (ap (λ o. wrote_at o k) (get-kept txn_cmp-total txn_cmp-exact m p t)) ∙ h)
-  where
-    by : (b : Bool) → wrote_at (cond b (fin.get m t) None) k ≡ true → wrote_at (fin.get m t) k ≡ true
-    by true h = h
-    by false h = absurd (not_both _ h refl)
+  pub less_begun : (m : Opened) (t : Txn) (fresh : Open) → ((k : RowKey) → has fresh k ≡ false) → NoMore m (fin.insert m t fresh)
+  less_begun m t fresh none u k h = by (eq_by_cmp txn_cmp u t) (sym (ap (λ o. has_at has o k) (fin.get-insert txn_cmp-total m t fresh u)) ∙ h)
+    where
+      by : (b : Bool) → has_at has (cond b (Some fresh) (fin.get m u)) k ≡ true → has_at has (fin.get m u) k ≡ true
+      by true h = absurd (not_both _ h (none k))
+      by false h = h
 
-pub less_begun : (m : Opened) (t : Txn) (fresh : Open) → fresh ≡ untouched → WritesNoMore m (fin.insert m t fresh)
-less_begun m t fresh is u k h = by (eq_by_cmp txn_cmp u t) (sym (ap (λ o. wrote_at o k) (fin.get-insert txn_cmp-total m t fresh u)) ∙ h)
-  where
-    by : (b : Bool) → wrote_at (cond b (Some fresh) (fin.get m u)) k ≡ true → wrote_at (fin.get m u) k ≡ true
-    by true h = absurd (not_both _ h (ap (λ o. is_some (fin.get o.writes k)) is ∙ ap is_some (fin.get-empty row_cmp k)))
-    by false h = h
+  pub less_same : (m : Opened) (t : Txn) (had w : Open) → fin.get m t ≡ Some had → ((k : RowKey) → has w k ≡ has had k) → NoMore m (fin.insert m t w)
+  less_same m t had w is same u k h = by (eq_by_cmp txn_cmp u t) refl (sym (ap (λ o. has_at has o k) (fin.get-insert txn_cmp-total m t w u)) ∙ h)
+    where
+      by : (b : Bool) → eq_by_cmp txn_cmp u t ≡ b → has_at has (cond b (Some w) (fin.get m u)) k ≡ true → has_at has (fin.get m u) k ≡ true
+      by true at h = ap (λ o. has_at has o k) (ap (fin.get m) (equal txn_cmp-total txn_cmp-exact u t at) ∙ is) ∙ sym (same k) ∙ h
+      by false at h = h
 
-pub less_read : (m : Opened) (t : Txn) (had w : Open) → fin.get m t ≡ Some had → w.writes ≡ had.writes → WritesNoMore m (fin.insert m t w)
-less_read m t had w is same u k h = by (eq_by_cmp txn_cmp u t) refl (sym (ap (λ o. wrote_at o k) (fin.get-insert txn_cmp-total m t w u)) ∙ h)
-  where
-    by : (b : Bool) → eq_by_cmp txn_cmp u t ≡ b → wrote_at (cond b (Some w) (fin.get m u)) k ≡ true → wrote_at (fin.get m u) k ≡ true
-    by true at h =
-        ap (λ o. wrote_at o k) (ap (fin.get m) (equal txn_cmp-total txn_cmp-exact u t at) ∙ is) ∙ ap (λ x. is_some (fin.get x k)) (sym same) ∙ h
-    by false at h = h
+  -- one key more, or none: the index has the transaction at the key at any rate
+  pub covers_more : (m : Opened) (index : Holders) (t : Txn) (key : RowKey) (had w : Open) → fin.get m t ≡ Some had
+      → ((k : RowKey) → eq_by_cmp row_cmp k key ≡ false → has w k ≡ true → has had k ≡ true)
+      → Covers has m index → Covers has (fin.insert m t w) (with_holder index key t (fin.get index key))
+  covers_more m index t key had w is grows covers u k h = by (eq_by_cmp txn_cmp u t) refl (sym (ap (λ o. has_at has o k) (fin.get-insert txn_cmp-total m t w u)) ∙ h)
+    where
+      new : Holders
+      new = with_holder index key t (fin.get index key)
 
--- a write, or none: the index has the writer of the key at any rate
-pub covers_write : {E : Type 0} (m : Opened) (index : Holders) (t : Txn) (key : RowKey) (had w : Open) (value : Option (List ℕ)) (r : Result (Unit {0}) E)
-    → fin.get m t ≡ Some had → OnOk r (w.writes ≡ fin.insert had.writes key value) → OnErr r (w.writes ≡ had.writes)
-    → CoversWrites m index → CoversWrites (fin.insert m t w) (with_holder index key t (fin.get index key))
-covers_write m index t key had w value r is ok err covers u k h = by (eq_by_cmp txn_cmp u t) refl (sym (ap (λ o. wrote_at o k) (fin.get-insert txn_cmp-total m t w u)) ∙ h)
-  where
-    new : Holders
-    new = with_holder index key t (fin.get index key)
+      own_key : (b : Bool) → eq_by_cmp row_cmp k key ≡ b → has w k ≡ true → is_among (fin.get new k) t ≡ true
+      own_key true at h = subst (λ x. is_among (fin.get new x) t ≡ true) (sym (equal row_cmp-total row_cmp-exact k key at)) (now_with index key t)
+      own_key false at h = still_with index key k t t (covers t k (ap (λ o. has_at has o k) is ∙ grows k at h))
 
-    same_key : (b : Bool) → eq_by_cmp row_cmp k key ≡ b → is_some (cond b (Some value) (fin.get had.writes k)) ≡ true → is_among (fin.get new k) t ≡ true
-    same_key true at h = subst (λ x. is_among (fin.get new x) t ≡ true) (sym (equal row_cmp-total row_cmp-exact k key at)) (now_with index key t)
-    same_key false at h = still_with index key k t t (covers t k (ap (λ o. wrote_at o k) is ∙ h))
+      by : (b : Bool) → eq_by_cmp txn_cmp u t ≡ b → has_at has (cond b (Some w) (fin.get m u)) k ≡ true → is_among (fin.get new k) u ≡ true
+      by true at h = subst (λ x. is_among (fin.get new k) x ≡ true) (sym (equal txn_cmp-total txn_cmp-exact u t at)) (own_key (eq_by_cmp row_cmp k key) refl h)
+      by false at h = still_with index key k t u (covers u k h)
 
-    own_writes : is_some (fin.get w.writes k) ≡ true → is_among (fin.get new k) t ≡ true
-    own_writes h = result r ok err
-      where
-        result : {E : Type 0} (r : Result (Unit {0}) E) → OnOk r (w.writes ≡ fin.insert had.writes key value) → OnErr r (w.writes ≡ had.writes) → is_among (fin.get new k) t ≡ true
-        result (Ok x) ok err = same_key (eq_by_cmp row_cmp k key) refl (sym (ap (λ x. is_some (fin.get x k)) ok ∙ ap is_some (fin.get-insert row_cmp-total had.writes key value k)) ∙ h)
-        result (Err e) ok err = still_with index key k t t (covers t k (ap (λ o. wrote_at o k) is ∙ ap (λ x. is_some (fin.get x k)) (sym err) ∙ h))
+-- a transaction that begins has written and read nothing
+pub wrote_none_yet : (fresh : Open) → fresh ≡ untouched → (k : RowKey) → wrote fresh k ≡ false
+wrote_none_yet fresh is k = ap (λ o. wrote o k) is ∙ ap is_some (fin.get-empty row_cmp k)
 
-    by : (b : Bool) → eq_by_cmp txn_cmp u t ≡ b → wrote_at (cond b (Some w) (fin.get m u)) k ≡ true → is_among (fin.get new k) u ≡ true
-    by true at h = subst (λ x. is_among (fin.get new k) x ≡ true) (sym (equal txn_cmp-total txn_cmp-exact u t at)) (own_writes h)
-    by false at h = still_with index key k t u (covers u k h)
+pub read_none_yet : (fresh : Open) → fresh ≡ untouched → (k : RowKey) → read fresh k ≡ false
+read_none_yet fresh is k = ap (λ o. read o k) is ∙ sets.contains-empty row_cmp k
+
+-- a write, or none
+pub write_grows : {E : Type 0} (had w : Open) (key : RowKey) (value : Option (List ℕ)) (r : Result (Unit {0}) E)
+    → OnOk r (w.writes ≡ fin.insert had.writes key value) → OnErr r (w.writes ≡ had.writes)
+    → (k : RowKey) → eq_by_cmp row_cmp k key ≡ false → wrote w k ≡ true → wrote had k ≡ true
+write_grows had w key value (Ok x) ok err k other h =
+    sym (ap (λ m. is_some (fin.get m k)) ok ∙ ap is_some (fin.get-insert row_cmp-total had.writes key value k)
+    ∙ ap (λ b. is_some (cond b (Some value) (fin.get had.writes k))) other) ∙ h
+write_grows had w key value (Err e) ok err k other h = sym (ap (λ m. is_some (fin.get m k)) err) ∙ h
+
+-- a read, or none
+pub read_grows : {E : Type 0} (had w : Open) (key : RowKey) (r : Result (Unit {0}) E)
+    → OnOk r (w.reads ≡ sets.insert had.reads key) → OnErr r (w.reads ≡ had.reads)
+    → (k : RowKey) → eq_by_cmp row_cmp k key ≡ false → read w k ≡ true → read had k ≡ true
+read_grows had w key (Ok x) ok err k other h =
+    sym (ap (λ m. sets.contains m k) ok ∙ sets.contains-insert row_cmp-total had.reads key k ∙ ap (λ b. b || sets.contains had.reads k) other) ∙ h
+read_grows had w key (Err e) ok err k other h = sym (ap (λ m. sets.contains m k) err) ∙ h
 
 -- ---- a transaction goes
 
@@ -193,33 +204,37 @@ still_without index key k t u other h = still_tidied (struck index key t (fin.ge
 pub strike_turn : (old now next : Holders) (key : RowKey) (t : Txn) → StillAmong old now t → next ≡ without_holder now key t → StillAmong old next t
 strike_turn old now next key t still is u k other h = subst (λ n. is_among (fin.get n k) u ≡ true) (sym is) (still_without now key k t u other (still u k other h))
 
-pub covers_ended : (m : Opened) (index next : Holders) (t : Txn) → StillAmong index next t → CoversWrites m index → CoversWrites (fin.remove m t) next
-covers_ended m index next t still covers u k h = by (eq_by_cmp txn_cmp u t) refl (sym (ap (λ o. wrote_at o k) (fin.get-remove txn_cmp-total m t u)) ∙ h)
+pub covers_ended : (has : Open → RowKey → Bool) (m : Opened) (index next : Holders) (t : Txn) → StillAmong index next t → Covers has m index → Covers has (fin.remove m t) next
+covers_ended has m index next t still covers u k h = by (eq_by_cmp txn_cmp u t) refl (sym (ap (λ o. has_at has o k) (fin.get-remove txn_cmp-total m t u)) ∙ h)
   where
     apart : eq_by_cmp txn_cmp u t ≡ false → is_at (txn_cmp t) u ≡ false
     apart other = true_or_false _ (λ same. not_both _ (subst (λ x. eq_by_cmp txn_cmp x t ≡ true) (equal txn_cmp-total txn_cmp-exact t u same) (own t)) other)
 
-    by : (b : Bool) → eq_by_cmp txn_cmp u t ≡ b → wrote_at (cond b None (fin.get m u)) k ≡ true → is_among (fin.get next k) u ≡ true
+    by : (b : Bool) → eq_by_cmp txn_cmp u t ≡ b → has_at has (cond b None (fin.get m u)) k ≡ true → is_among (fin.get next k) u ≡ true
     by true at h = absurd (not_both _ h refl)
     by false at h = still u k (apart at) (covers u k h)
 
 -- ---- a look at a row's holders
 
--- whether one of these, other than T, has written the key
-abbrev pub held_by_other : List Txn → Opened → Txn → RowKey → Bool
-held_by_other ts m t key = list_any (λ u. not (same_txn u t) && wrote_at (fin.get m u) key) ts
+-- whether one of these, other than T, has the key
+abbrev pub held_by_other : (Open → RowKey → Bool) → List Txn → Opened → Txn → RowKey → Bool
+held_by_other has ts m t key = list_any (λ u. not (same_txn u t) && has_at has (fin.get m u) key) ts
 
-module _ (m : Opened) (t : Txn) (key : RowKey) where
-  some_of : (a : Bool) (u : Txn) (o : Option Open) → fin.get m u ≡ o → ((v : Open) → fin.get m u ≡ Some v → (a && is_some (fin.get v.writes key)) ≡ false) → (a && wrote_at o key) ≡ false
+module _ (has : Open → RowKey → Bool) (m : Opened) (t : Txn) (key : RowKey) where
+  -- whether one of the open transactions does
+  abbrev pub had_by_other : Bool
+  had_by_other = list_any (λ e. not (same_txn e.0 t) && has e.1 key) (fin.entries m)
+
+  some_of : (a : Bool) (u : Txn) (o : Option Open) → fin.get m u ≡ o → ((v : Open) → fin.get m u ≡ Some v → (a && has v key) ≡ false) → (a && has_at has o key) ≡ false
   some_of true u None is fails = refl
   some_of false u o is fails = refl
   some_of true u (Some v) is fails = fails v is
 
-  none_held : wrote_by_other (fin.entries m) t key ≡ false → (ts : List Txn) → held_by_other ts m t key ≡ false
+  none_held : had_by_other ≡ false → (ts : List Txn) → held_by_other has ts m t key ≡ false
   none_held h [] = refl
   none_held h (u ∷ ts) =
-      ap (λ b. b || held_by_other ts m t key)
-      (some_of (not (same_txn u t)) u (fin.get m u) refl (λ v is. each_fails txn_cmp-total txn_cmp-exact m (λ e. not (same_txn e.0 t) && is_some (fin.get e.1.writes key)) h u v is))
+      ap (λ b. b || held_by_other has ts m t key)
+      (some_of (not (same_txn u t)) u (fin.get m u) refl (λ v is. each_fails txn_cmp-total txn_cmp-exact m (λ e. not (same_txn e.0 t) && has e.1 key) h u v is))
       ∙ none_held h ts
 
   holds_it : (p : Txn → Bool) (u : Txn) (ts : List Txn) → list_any (is_at (txn_cmp u)) ts ≡ true → p u ≡ true → list_any p ts ≡ true
@@ -234,24 +249,24 @@ module _ (m : Opened) (t : Txn) (key : RowKey) where
   second true b h = h
   second false b h = absurd (not_both _ h refl)
 
-  -- where each that has written the key is one of these, a look at these tells
-  wrote_none : (index : Holders) → CoversWrites m index → ((u : Txn) → is_among (fin.get index key) u ≡ true → (not (same_txn u t) && wrote_at (fin.get m u) key) ≡ true → ⊥) → wrote_by_other (fin.entries m) t key ≡ false
-  wrote_none index covers fails =
-      none_passes txn_cmp-total txn_cmp-exact m (λ e. not (same_txn e.0 t) && is_some (fin.get e.1.writes key))
+  -- where each that has the key is one of these, a look at these tells
+  had_none : (index : Holders) → Covers has m index → ((u : Txn) → is_among (fin.get index key) u ≡ true → (not (same_txn u t) && has_at has (fin.get m u) key) ≡ true → ⊥) → had_by_other ≡ false
+  had_none index covers fails =
+      none_passes txn_cmp-total txn_cmp-exact m (λ e. not (same_txn e.0 t) && has e.1 key)
       (λ u o found. true_or_false _ (λ h.
-      let wrote : wrote_at (fin.get m u) key ≡ true = ap (λ x. wrote_at x key) found ∙ second (not (same_txn u t)) _ h in
-      fails u (covers u key wrote) (ap (λ x. not (same_txn u t) && wrote_at x key) found ∙ h)))
+      let wrote : has_at has (fin.get m u) key ≡ true = ap (λ x. has_at has x key) found ∙ second (not (same_txn u t)) _ h in
+      fails u (covers u key wrote) (ap (λ x. not (same_txn u t) && has_at has x key) found ∙ h)))
 
-  pub held_is : (index : Holders) (ts : List Txn) → CoversWrites m index → fin.get index key ≡ Some ts → held_by_other ts m t key ≡ wrote_by_other (fin.entries m) t key
-  held_is index ts covers is = by (held_by_other ts m t key) refl (wrote_by_other (fin.entries m) t key) refl
+  pub held_is : (index : Holders) (ts : List Txn) → Covers has m index → fin.get index key ≡ Some ts → held_by_other has ts m t key ≡ had_by_other
+  held_is index ts covers is = by (held_by_other has ts m t key) refl (had_by_other) refl
     where
-      by : (a : Bool) → held_by_other ts m t key ≡ a → (b : Bool) → wrote_by_other (fin.entries m) t key ≡ b → a ≡ b
+      by : (a : Bool) → held_by_other has ts m t key ≡ a → (b : Bool) → had_by_other ≡ b → a ≡ b
       by true x true y = refl
       by false x false y = refl
       by true x false y = absurd (not_both _ x (none_held y ts))
       by false x true y =
-          absurd (not_both _ y (wrote_none index covers (λ u member passes.
-          not_both _ (holds_it (λ v. not (same_txn v t) && wrote_at (fin.get m v) key) u ts (sym (ap (λ o. is_among o u) is) ∙ member) passes) x)))
+          absurd (not_both _ y (had_none index covers (λ u member passes.
+          not_both _ (holds_it (λ v. not (same_txn v t) && has_at has (fin.get m v) key) u ts (sym (ap (λ o. is_among o u) is) ∙ member) passes) x)))
 
-  pub held_none : (index : Holders) → CoversWrites m index → fin.get index key ≡ None → wrote_by_other (fin.entries m) t key ≡ false
-  held_none index covers is = wrote_none index covers (λ u member passes. not_both _ member (ap (λ o. is_among o u) is))
+  pub held_none : (index : Holders) → Covers has m index → fin.get index key ≡ None → had_by_other ≡ false
+  held_none index covers is = had_none index covers (λ u member passes. not_both _ member (ap (λ o. is_among o u) is))

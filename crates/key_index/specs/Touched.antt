@@ -26,12 +26,19 @@ same_writer a b = nat_eq a.0 b.0
 abbrev pub same_txn : Txn → Txn → Bool
 same_txn a b = nat_eq a.writer.0 b.writer.0 && nat_eq a.number b.number
 
+-- Whether a transaction has written the key, or has read it.
+abbrev pub wrote : Open → RowKey → Bool
+wrote touched key = is_some (fin.get touched.writes key)
+
+abbrev pub read : Open → RowKey → Bool
+read touched key = sets.contains touched.reads key
+
 -- Whether one of the open transactions, other than T, has written the key, or has read it.
 abbrev pub wrote_by_other : List (Txn × Open) → Txn → RowKey → Bool
-wrote_by_other opened t key = list_any (λ e. not (same_txn e.0 t) && is_some (fin.get e.1.writes key)) opened
+wrote_by_other opened t key = list_any (λ e. not (same_txn e.0 t) && wrote e.1 key) opened
 
 abbrev pub read_by_other : List (Txn × Open) → Txn → RowKey → Bool
-read_by_other opened t key = list_any (λ e. not (same_txn e.0 t) && sets.contains e.1.reads key) opened
+read_by_other opened t key = list_any (λ e. not (same_txn e.0 t) && read e.1 key) opened
 
 -- the open transactions, where T has read one more key, or written one, if it is open
 abbrev pub reads_in : fin.FinMap txn_cmp Open → Txn → RowKey → Option Open → fin.FinMap txn_cmp Open
@@ -47,14 +54,14 @@ abbrev pub is_among : Option (List Txn) → Txn → Bool
 is_among None t = false
 is_among (Some ts) t = list_any (is_at (txn_cmp t)) ts
 
--- whether a transaction is open and has written the key
-abbrev pub wrote_at : Option Open → RowKey → Bool
-wrote_at None key = false
-wrote_at (Some touched) key = is_some (fin.get touched.writes key)
+-- whether a transaction is open and has the key among those that it has written, or read
+abbrev pub has_at : (Open → RowKey → Bool) → Option Open → RowKey → Bool
+has_at has None key = false
+has_at has (Some touched) key = has touched key
 
--- each open transaction is a holder of what it has written
-abbrev pub CoversWrites : fin.FinMap txn_cmp Open → fin.FinMap row_cmp (List Txn) → Type 0
-CoversWrites opened index = (t : Txn) (key : RowKey) → wrote_at (fin.get opened t) key ≡ true → is_among (fin.get index key) t ≡ true
+-- each open transaction is a holder of what it has written, or read
+abbrev pub Covers : (Open → RowKey → Bool) → fin.FinMap txn_cmp Open → fin.FinMap row_cmp (List Txn) → Type 0
+Covers has opened index = (t : Txn) (key : RowKey) → has_at has (fin.get opened t) key ≡ true → is_among (fin.get index key) t ≡ true
 
 -- the holders other than T still hold what they held
 abbrev pub StillAmong : fin.FinMap row_cmp (List Txn) → fin.FinMap row_cmp (List Txn) → Txn → Type 0

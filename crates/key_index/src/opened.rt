@@ -2,7 +2,7 @@
 ghost use Rattle.std.specs.Prelude.{◌≡◌, ◌&&◌, not, is_none, is_some, true, OnOk, OnErr, IfSome, IfNone};
 ghost use Rattle.std.specs.FinMap as fin;
 ghost use Rattle.std.specs.Option.{option_copied};
-ghost use Rattle.key_index.specs.Touched.{untouched, same_writer, wrote_by_other, read_by_other, reads_in, writes_in, wrote_at, StillAmong, HasNoneOf};
+ghost use Rattle.key_index.specs.Touched.{untouched, same_writer, wrote_by_other, read_by_other, reads_in, writes_in, wrote, read, has_at, StillAmong, HasNoneOf};
 
 use crate::KeyIndex;
 use std::alloc::Global;
@@ -37,13 +37,15 @@ pub struct OpenMap {
     opened: BTreeMap<Txn, Open>,
     // For each row, the transactions that may have written it: at least those that have.
     written: KeyIndex,
+    // The same of reading.
+    readers: KeyIndex,
 }
 
 impl Model for OpenMap {
     ghost use Rattle.std.specs.FinMap as fin;
     ghost use Rattle.tm_data.specs.Maps.{as_map};
     ghost use Rattle.tm_data.specs.Orders.{txn_cmp, coded_txn};
-    ghost use Rattle.key_index.specs.Touched.{coded_open, CoversWrites};
+    ghost use Rattle.key_index.specs.Touched.{coded_open, wrote, read, Covers};
     ghost use Rattle.key_index.specs.declared.opened.Open.{Open};
 
     ghost Value = { fin.FinMap txn_cmp Open };
@@ -52,7 +54,7 @@ impl Model for OpenMap {
 
     ghost view = { λ m. as_map m.opened };
 
-    ghost invariant = { λ m. CoversWrites (as_map m.opened) m.written };
+    ghost invariant = { λ m. Covers wrote (as_map m.opened) m.written × Covers read (as_map m.opened) m.readers };
 }
 
 // Takes the transaction from those that may have written these keys.
@@ -60,6 +62,15 @@ fn strike(index: &mut KeyIndex, writes: &RowMap<Option<ByteList>>, txn: &Txn)
     ensures { StillAmong index.old index.new txn.now }
 {
     for (key, _) in writes.iter() {
+        index.remove(key, txn);
+    }
+}
+
+// Takes the transaction from those that may have read these keys.
+fn strike_reads(index: &mut KeyIndex, reads: &RowSet, txn: &Txn)
+    ensures { StillAmong index.old index.new txn.now }
+{
+    for key in reads.iter() {
         index.remove(key, txn);
     }
 }
@@ -73,6 +84,7 @@ impl OpenMap {
             alloc,
             opened: BTreeMap::new(alloc),
             written: KeyIndex::new(alloc),
+            readers: KeyIndex::new(alloc),
         }
     }
 
@@ -97,6 +109,7 @@ impl OpenMap {
         ensures ok { OnOk result (self.new ≡ reads_in self.old txn.now key (fin.get self.old txn.now)) }
         ensures err { OnErr result (self.new ≡ self.old) }
     {
+        self.readers.add(key.copy()?, *txn)?;
         let Some(touched) = self.opened.get_mut(txn) else {
             return Ok(());
         };
@@ -124,6 +137,7 @@ impl OpenMap {
             return None;
         };
         strike(&mut self.written, &touched.writes, txn);
+        strike_reads(&mut self.readers, &touched.reads, txn);
         Some(touched)
     }
 
@@ -175,7 +189,7 @@ impl OpenMap {
 
     // Whether the transaction is open and has written the key.
     fn has_written(&self, txn: &Txn, key: &RowKey) -> bool
-        ensures { result ≡ wrote_at (fin.get self.now txn.now) key.now }
+        ensures { result ≡ has_at wrote (fin.get self.now txn.now) key.now }
     {
         match self.opened.get(txn) {
             Some(touched) => touched.writes.get(key).is_some(),
@@ -187,11 +201,24 @@ impl OpenMap {
     pub fn other_read(&self, txn: &Txn, key: &RowKey) -> bool
         ensures { result ≡ read_by_other (fin.entries self.now) txn.now key.now }
     {
-        for (other, touched) in self.opened.iter() {
-            if *other != *txn && touched.reads.contains(key) {
+        let Some(holders) = self.readers.holders(key) else {
+            return false;
+        };
+        for other in holders.iter() {
+            if *other != *txn && self.has_read(other, key) {
                 return true;
             }
         }
         false
+    }
+
+    // Whether the transaction is open and has read the key.
+    fn has_read(&self, txn: &Txn, key: &RowKey) -> bool
+        ensures { result ≡ has_at read (fin.get self.now txn.now) key.now }
+    {
+        match self.opened.get(txn) {
+            Some(touched) => touched.reads.contains(key),
+            None => false,
+        }
     }
 }

@@ -7,5 +7,6 @@ pub mod FirstLemmas
 pub mod FoldLemmas
 pub mod LawLemmas
 mod PlaceLemmas
+mod SessionLemmas
 pub mod StepLemmas
 mod ValuedLemmas

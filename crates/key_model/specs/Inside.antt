@@ -1,21 +1,55 @@
 -- What only this crate's own functions speak of.
-use Rattle.std.specs.Prelude.{ℕ, List, [], ◌∷◌, Bool, true, false, cond, ◌&&◌, is_some, is_none, Some, None, IsSome}
+use Rattle.std.specs.Prelude.{◌≡◌, ℕ, List, [], ◌∷◌, Bool, true, false, cond, ◌&&◌, is_some, is_none, Some, None, IsSome}
 use Rattle.std.specs.Map.{keys_of}
 use Rattle.std.specs.FinMap as fin
+use Rattle.std.specs.FinMap.{IsAntisymmetric}
+use Rattle.std.specs.Cmp.{IsTotalOrder}
+use Rattle.std.proofs.Common.{ap}
+use Rattle.std.proofs.lemmas.Cmp.{then_total, on_total}
+use Rattle.std.proofs.lemmas.Map.Lookups.{exact_pairs}
 use Rattle.std.specs.FinSet as sets
 use Rattle.std.specs.List.{list_any}
 use Rattle.std.specs.declared.option.Option.{Option}
+use Rattle.std.specs.Ordering.{ordering_then}
 use Rattle.std.specs.declared.cmp.Ordering.{Ordering}
 use Rattle.tm_data.specs.declared.transaction.Txn.{Txn}
 use Rattle.tm_data.specs.declared.transaction.Writer.{Writer}
 use Rattle.tm_data.specs.declared.row_map.RowKey.{RowKey}
-use Rattle.tm_data.specs.Orders.{row_cmp, txn_cmp}
+use Rattle.tm_data.specs.Orders.{row_cmp, txn_cmp, txn_cmp-exact, txn_cmp-total}
 use Rattle.key_model.specs.declared.values.Entry.{Entry}
 use Rattle.key_model.specs.declared.events.Ended.{Ended}
 use Rattle.key_model.specs.declared.events.PutKey.{PutKey}
 use Rattle.key_model.specs.declared.closing.Ending.{Ending}
-use Rattle.key_model.specs.State.{Open, DyingRow, dying_cmp}
-use Rattle.key_model.specs.After.{same_writer, same_row, locked_row}
+use Rattle.key_model.specs.declared.sessions.Held.{Held}
+use Rattle.key_model.specs.declared.sessions.Session.{Session}
+use Rattle.key_model.specs.State.{Open, DyingRow, dying_cmp, session_cmp, session_cmp-exact, session_cmp-total}
+use Rattle.key_model.specs.After.{same_txn, same_writer, same_row, locked_row}
+
+-- ---- sessions by transaction
+
+-- whether a session has the transaction
+abbrev pub has_txn : Option Txn → Txn → Bool
+has_txn None t = false
+has_txn (Some own) t = same_txn own t
+
+-- by transaction, and then by session
+abbrev pub held_cmp : Held → Held → Ordering
+held_cmp a b = ordering_then (txn_cmp a.txn b.txn) (session_cmp a.session b.session)
+
+pub held_cmp-exact : IsAntisymmetric held_cmp
+held_cmp-exact a b h = ap (λ (p : Txn × Session). record { txn = p.0; session = p.1 }) (exact_pairs txn_cmp session_cmp txn_cmp-exact session_cmp-exact (a.txn, a.session) (b.txn, b.session) h)
+
+pub held_cmp-total : IsTotalOrder held_cmp
+held_cmp-total = then_total (on_total (λ h. h.txn) txn_cmp-total) (on_total (λ h. h.session) session_cmp-total)
+
+abbrev pub first_held : Txn → Held
+first_held t = record { txn = t; session = record { writer = record { 0 = 0 }; number = 0 } }
+
+-- each session that has a transaction is one that may have it
+abbrev pub CoversTxns : fin.FinMap session_cmp Txn → sets.FinSet held_cmp → Type 0
+CoversTxns txns held = (s : Session) (t : Txn) → fin.get txns s ≡ Some t → sets.contains held (record { txn = t; session = s }) ≡ true
+
+-- ---- places
 
 -- the entries that have a value
 abbrev pub keep : {K X : Type 0} → K → Option X → List (K × X) → List (K × X)

@@ -2,7 +2,7 @@ use Rattle.std.proofs.Common.{sym, ◌∙◌, ap, subst}
 use Rattle.std.specs.FinMap.{get, remove}
 use Rattle.tm_data.specs.Orders.{txn_cmp-total, txn_cmp-exact}
 use Rattle.tm_data.specs.Maps.{as_map, get-as_map, remove-as_map}
-use Rattle.key_index.specs.Touched.{CoversWrites}
+use Rattle.key_index.specs.Touched.{Covers, wrote, read}
 use Rattle.key_index.proofs.CoverLemmas.{covers_ended}
 use Rattle.key_index.proofs.opened.OpenMap.end.Goals as goal
 
@@ -27,5 +27,9 @@ returns-clause-removed c =
 pub invariant_of-self-2 : goal.invariant_of-self-2
 invariant_of-self-2 c =
     let m = c.self.inside.opened in
-    subst (λ n. CoversWrites n c.strike.new.index) (sym (remove-as_map txn_cmp-total txn_cmp-exact m c.remove.new.self c.args.txn.now c.remove.ensures.updates.0))
-    (covers_ended (as_map m) c.self.inside.written c.strike.new.index c.args.txn.now c.strike.ensures c.self.invariant)
+    let is = remove-as_map txn_cmp-total txn_cmp-exact m c.remove.new.self c.args.txn.now c.remove.ensures.updates.0 in (
+      subst (λ n. Covers wrote n c.strike.new.index) (sym is)
+          (covers_ended wrote (as_map m) c.self.inside.written c.strike.new.index c.args.txn.now c.strike.ensures c.self.invariant.0),
+      subst (λ n. Covers read n c.strike_reads.new.index) (sym is)
+          (covers_ended read (as_map m) c.self.inside.readers c.strike_reads.new.index c.args.txn.now c.strike_reads.ensures c.self.invariant.1),
+    )
