@@ -6,6 +6,7 @@ pub mod EventLemmas
 pub mod FirstLemmas
 pub mod FoldLemmas
 pub mod LawLemmas
+mod OwnedLemmas
 mod PlaceLemmas
 mod SessionLemmas
 pub mod StepLemmas

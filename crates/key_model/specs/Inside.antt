@@ -1,6 +1,7 @@
 -- What only this crate's own functions speak of.
-use Rattle.std.specs.Prelude.{◌≡◌, ℕ, List, [], ◌∷◌, Bool, true, false, cond, ◌&&◌, is_some, is_none, Some, None, IsSome}
+use Rattle.std.specs.Prelude.{◌≡◌, ℕ, List, [], ◌∷◌, ◌++◌, Bool, true, false, cond, ◌&&◌, is_some, is_none, Some, None, IsSome}
 use Rattle.std.specs.Map.{keys_of}
+use Rattle.std.specs.BTreeMap.{is_at}
 use Rattle.std.specs.FinMap as fin
 use Rattle.std.specs.FinMap.{IsAntisymmetric}
 use Rattle.std.specs.Cmp.{IsTotalOrder}
@@ -15,7 +16,7 @@ use Rattle.std.specs.declared.cmp.Ordering.{Ordering}
 use Rattle.tm_data.specs.declared.transaction.Txn.{Txn}
 use Rattle.tm_data.specs.declared.transaction.Writer.{Writer}
 use Rattle.tm_data.specs.declared.row_map.RowKey.{RowKey}
-use Rattle.tm_data.specs.Orders.{row_cmp, txn_cmp, txn_cmp-exact, txn_cmp-total}
+use Rattle.tm_data.specs.Orders.{row_cmp, writer_cmp, txn_cmp, txn_cmp-exact, txn_cmp-total}
 use Rattle.key_model.specs.declared.values.Entry.{Entry}
 use Rattle.key_model.specs.declared.events.Ended.{Ended}
 use Rattle.key_model.specs.declared.events.PutKey.{PutKey}
@@ -82,6 +83,32 @@ over m (e ∷ es) = over (fin.insert m e.0 e.1) es
 abbrev pub with_rows : sets.FinSet dying_cmp → List DyingRow → sets.FinSet dying_cmp
 with_rows s [] = s
 with_rows s (d ∷ ds) = with_rows (sets.insert s d) ds
+
+-- ---- rows by the writers of their transactions
+
+abbrev pub Owned : Type 0
+Owned = fin.FinMap writer_cmp (List DyingRow)
+
+-- one row more, the last of its writer's
+abbrev pub with_owned : Owned → DyingRow → Option (List DyingRow) → Owned
+with_owned m d None = fin.insert m d.txn.writer (d ∷ [])
+with_owned m d (Some ds) = fin.insert m d.txn.writer (ds ++ d ∷ [])
+
+-- whether a row is one of its writer's
+abbrev pub is_owned : Option (List DyingRow) → DyingRow → Bool
+is_owned None d = false
+is_owned (Some ds) d = list_any (is_at (dying_cmp d)) ds
+
+-- each row that has a place is one of its writer's
+abbrev pub CoversPlaces : fin.FinMap dying_cmp (Option (Unit {0})) → Owned → Type 0
+CoversPlaces places owned = (d : DyingRow) → is_some (fin.get places d) ≡ true → is_owned (fin.get owned d.txn.writer) d ≡ true
+
+-- the places without those of these rows, as far as they are the writer's
+abbrev pub without_own : Writer → fin.FinMap dying_cmp (Option (Unit {0})) → List DyingRow → fin.FinMap dying_cmp (Option (Unit {0}))
+without_own w m [] = m
+without_own w m (d ∷ ds) = without_own w (cond (same_writer d.txn.writer w) (fin.remove m d) m) ds
+
+-- ---- values that enter
 
 -- each value that is to enter has a place
 abbrev pub HasPlace : fin.FinMap row_cmp (Option (List ℕ)) → RowKey → Option (List ℕ) → Type 0

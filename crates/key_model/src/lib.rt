@@ -9,6 +9,7 @@ mod closing;
 mod events;
 pub mod laws;
 mod machine;
+mod owned;
 mod sessions;
 mod settled;
 mod step;

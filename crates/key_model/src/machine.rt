@@ -7,13 +7,13 @@ ghost use Rattle.key_model.specs.After.{stepped, told, is_doomed, may_begin, aft
 ghost use Rattle.key_model.specs.Inside.{entries_of, no_txn};
 ghost use Rattle.key_model.specs.Took.{Took};
 
-use crate::closed::{DyingMap, DyingRow, WriterSet};
+use crate::closed::{DyingMap, DyingRow};
 use crate::closing::{ending_of, rows_of};
 use crate::sessions::{Session, SessionMap};
 use crate::settled::{Outcomes, enter_end, enter_ends, outcome_of, reserve_ends};
 use crate::values::{Entry, EntryList, Places, enter, reserve};
 use crate::{EndList, MachineStep, PutList};
-use key_index::{Open, OpenMap};
+use key_index::{Open, OpenMap, WriterSet};
 use std::alloc::Global;
 use std::marker::Model;
 use tm_base::{
@@ -22,9 +22,9 @@ use tm_base::{
 
 /// The plain machine, running: contracts see its whole state.
 ///
-/// A step costs a look-up in the maps and at the transactions that hold its row. A write still looks
-/// at each open transaction's reads, a begin at each session, and a recovery at each locked row. A
-/// settling costs a look-up for each key that was written, a close one for each that it takes out.
+/// A step costs a look-up in the maps and at the transactions that hold its row, whatever else is
+/// open, in a session or locked. A settling costs a look-up for each key that was read or written, a
+/// close one for each that it takes out, and a recovery one for each row that it frees.
 #[derive(Drop)]
 pub struct Machine {
     alloc: Global,

@@ -2,7 +2,7 @@ use Rattle.std.proofs.Common.{◌∙◌, ap}
 use Rattle.std.specs.FinSet.{insert}
 use Rattle.tm_data.specs.Orders.{writer_cmp-total, writer_cmp-exact}
 use Rattle.tm_data.specs.Maps.{insert-as_set}
-use Rattle.key_model.proofs.closed.WriterSet.insert.Goals as goal
+use Rattle.key_index.proofs.writers.WriterSet.insert.Goals as goal
 
 pub returns-clause-ok : goal.returns-clause-ok
 returns-clause-ok c =
