@@ -23,7 +23,7 @@ lock_model/Step store_model/LogState store_model/LogStep store_model/LogStarts s
 store_model/PageStep store_model/PageWhole store_model/PageReads replica_model/Order replica_model/State
 replica_model/Step replica_model/Reads master_model/Tags master_model/State master_model/Fates master_model/Paths
 master_model/Logging master_model/Reads master_model/Writes master_model/Ends master_model/Leases master_model/Acks
-master_model/Recovery master_model/Step key_model/State key_model/Steps key_model/After key_model/Events
+master_model/Recovery master_model/Step key_index/Touched key_model/State key_model/Steps key_model/After key_model/Events
 key_model/Causes key_model/Cuts history_model/History world_model/Disk world_model/World world_model/Past
 world_model/Nodes world_model/Step
 """.split()

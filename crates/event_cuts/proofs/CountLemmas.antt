@@ -15,7 +15,7 @@ use Rattle.tm_data.specs.Orders.{writer_cmp, writer_cmp-total, writer_cmp-exact}
 use Rattle.key_model.specs.declared.events.Event.{Event}
 use Rattle.key_model.specs.declared.events.Count.{Count}
 use Rattle.key_model.specs.Causes.{reaching}
-use Rattle.key_model.proofs.AnyLemmas.{none_below, first_of_both, second_of_both}
+use Rattle.key_index.proofs.AnyLemmas.{none_below, first_of_both, second_of_both}
 use Rattle.event_cuts.specs.Counts.{number_in, AreCounts, vector_of_first, vector_at}
 use Rattle.event_cuts.specs.declared.reached.Reached.{Reached}
 use Rattle.event_cuts.specs.Inside.{or_zero, HasFound, counts_of}

@@ -16,7 +16,7 @@ use Rattle.key_model.specs.Steps.{row_of}
 use Rattle.key_model.specs.After.{same_row, same_writer}
 use Rattle.key_model.specs.Events.{logs, puts, key_of, meet, is_put, is_of, is_by, is_logged, conflicts}
 use Rattle.key_model.specs.Causes.{ends_conflict, touches_one, joining}
-use Rattle.key_model.proofs.AnyLemmas.{same_truth, equal, itself}
+use Rattle.key_index.proofs.AnyLemmas.{same_truth, equal, itself}
 use Rattle.key_model.proofs.LawLemmas.{row_is, writer_is, writer_same}
 use Rattle.event_cuts.specs.declared.reached.Reached.{Reached}
 use Rattle.event_cuts.specs.Inside.{Numbers, Keys, or_zero, or_false, one_if, with_number, with_key, with_kind_key, with_found, hits, end_hits, reaches, found_if, on, put_on, HasFound}

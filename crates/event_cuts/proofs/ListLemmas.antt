@@ -21,7 +21,7 @@ use Rattle.key_model.specs.Steps.{row_of}
 use Rattle.key_model.specs.After.{same_row, same_value}
 use Rattle.key_model.specs.Events.{has_end}
 use Rattle.key_model.specs.Cuts.{Cut, within, Written, puts_on, value_before, before_of, row_by, row_at, value_by}
-use Rattle.key_model.proofs.AnyLemmas.{none_below, first_of_both, second_of_both, some_is, none_not_some}
+use Rattle.key_index.proofs.AnyLemmas.{none_below, first_of_both, second_of_both, some_is, none_not_some}
 use Rattle.event_cuts.specs.declared.last_puts.LastPut.{LastPut}
 use Rattle.event_cuts.specs.Lists.{key_of_row, row_in, AreRowsAt, key_of_entry, value_in, IsMapAt}
 use Rattle.event_cuts.specs.Inside.{LastPuts, before_in, row_from, row_left, Finds, EndMap, HasEnds, mapped, rows_of, with_entry, entries_of}

@@ -18,7 +18,7 @@ use Rattle.key_model.specs.Steps.{row_of}
 use Rattle.key_model.specs.After.{same_txn, same_row}
 use Rattle.key_model.specs.Events.{ends, has_end}
 use Rattle.key_model.specs.Cuts.{Cut, is_in, gathered, Written, written, written_if, puts_on, wrote, value_after, value_before, before_of}
-use Rattle.key_model.proofs.AnyLemmas.{same_truth, equal, itself}
+use Rattle.key_index.proofs.AnyLemmas.{same_truth, equal, itself}
 use Rattle.key_model.proofs.LawLemmas.{txn_is, txn_same, row_is, row_same}
 use Rattle.event_cuts.specs.declared.last_puts.LastPut.{LastPut}
 use Rattle.event_cuts.specs.Inside.{LastPuts, with_earlier, or_last, with_put, with_kind, with_event, before_from, row_left, EndMap, with_end_kind, with_end, HasEnds}

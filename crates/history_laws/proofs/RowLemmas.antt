@@ -23,7 +23,7 @@ use Rattle.history_model.specs.History.{Deed, Reads, Logs, Entry, group_of, grou
 use Rattle.history_model.specs.Images.{Rows, no_rows, was, was_for, row_put, row_with, rows_with, rows_if, rows_from, rows_in}
 use Rattle.history_model.specs.Blocks.{GoesOn, InOneRun, TogetherFrom, PutsStandTogether}
 use Rattle.key_model.proofs.LawLemmas.{txn_is, row_is, value_is}
-use Rattle.key_model.proofs.AnyLemmas.{some_is}
+use Rattle.key_index.proofs.AnyLemmas.{some_is}
 use Rattle.key_model.proofs.FoldLemmas.{kept, wrote_kept}
 
 -- Where the transaction made one of the puts, it made the last.

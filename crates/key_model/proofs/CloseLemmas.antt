@@ -14,7 +14,7 @@ use Rattle.key_model.specs.declared.events.PutKey.{PutKey}
 use Rattle.key_model.specs.State.{Open, State, DyingRow, dying_cmp, dying_cmp-total, dying_cmp-exact}
 use Rattle.key_model.specs.Steps.{SettlesIfOpen, SettleInTurn, IsOpenOf, Leaves, Closes, IsRecovered}
 use Rattle.key_model.specs.After.{same_writer, after_settled, settled_if_open, or_same, after_ends, is_open_of, locked_row, with_locked, left, after_closing, after_recovery}
-use Rattle.key_model.proofs.AnyLemmas.{true_or_false, not_both, same_truth, itself, equal}
+use Rattle.key_index.proofs.AnyLemmas.{true_or_false, not_both, same_truth, itself, equal}
 use Rattle.key_model.proofs.LawLemmas.{first_true, second_true, both_true, not_true, true_not, writer_is, writer_same, gives, needs, settles_to, settles_from}
 
 -- ---- lists

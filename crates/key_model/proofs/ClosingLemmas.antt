@@ -19,7 +19,8 @@ use Rattle.key_model.specs.State.{Open, State, DyingRow, dying_cmp}
 use Rattle.key_model.specs.Steps.{or_mapped}
 use Rattle.key_model.specs.After.{same_writer, with_all, after_settled, or_same, after_ends, is_open_of, locked_row, with_locked, left, where_allowed, told, after_closing, after_recovery}
 use Rattle.key_model.specs.Inside.{over, with_rows, no_ending, writes_with, ending_if, all_ending, is_left, rows_left}
-use Rattle.key_model.proofs.PlaceLemmas.{get-kept, get-over_map}
+use Rattle.key_index.proofs.AnyLemmas.{get-kept}
+use Rattle.key_model.proofs.PlaceLemmas.{get-over_map}
 use Rattle.key_model.proofs.ValuedLemmas.{get-with_all}
 
 -- the state after the ends that were found

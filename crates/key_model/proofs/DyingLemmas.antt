@@ -10,7 +10,7 @@ use Rattle.tm_data.specs.declared.row_map.RowKey.{RowKey}
 use Rattle.key_model.specs.State.{DyingRow, dying_cmp, dying_cmp-total, dying_cmp-exact}
 use Rattle.key_model.specs.After.{same_row, locks}
 use Rattle.key_model.specs.Inside.{keep, kept, there, locks_in, with_rows}
-use Rattle.key_model.proofs.AnyLemmas.{any_item}
+use Rattle.key_index.proofs.AnyLemmas.{any_item}
 use Rattle.key_model.proofs.PlaceLemmas.{there-insert}
 
 abbrev Places : Type 0

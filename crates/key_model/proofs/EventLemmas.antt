@@ -11,7 +11,7 @@ use Rattle.key_model.specs.After.{same_txn, same_row}
 use Rattle.key_model.specs.Events.{Event, EventKind, Read, Put, End, logs, puts, key_of, concerns, ends, is_logged, is_put, is_of, is_end_of, is_by, meet, conflicts}
 use Rattle.key_model.specs.Causes.{touches, touches_one, ends_conflict, joining, reaching}
 use Rattle.key_model.specs.Cuts.{Written, written, written_if, puts_on, wrote}
-use Rattle.key_model.proofs.AnyLemmas.{some_is}
+use Rattle.key_index.proofs.AnyLemmas.{some_is}
 use Rattle.key_model.proofs.LawLemmas.{txn_is, txn_same, row_is, row_same}
 
 -- ---- lists

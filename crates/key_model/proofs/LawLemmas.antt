@@ -17,7 +17,7 @@ use Rattle.tm_base.specs.declared.reply.Reply.TheVariants as reply
 use Rattle.key_model.specs.State.{Open, State, session_cmp-total, session_cmp-exact, dying_cmp-total, dying_cmp-exact}
 use Rattle.key_model.specs.Steps.{at, row_of, txn_in, OpenTxn, open_txn, NeverBegun, NoOtherWrote, NoOtherRead, NoneDying, IsDoomed, or_mapped, seen, IsBegun, IsValue, IsDone, IsEnded, Recovers, Answers, Settles, with_begun, with_settled}
 use Rattle.key_model.specs.After.{same_writer, same_txn, same_row, same_value, same_outcome, is_fresh, other_wrote, other_read, has_dying, is_doomed, where_allowed, may_begin, after_begun, may_see, after_value, may_write, after_done, has_ended, after_ended, after_recovered, after_answer, with_all, after_settled}
-use Rattle.key_model.proofs.AnyLemmas.{true_or_false, not_both, some_is, none_not_some, each_fails, none_passes, each_item_fails, no_item_passes}
+use Rattle.key_index.proofs.AnyLemmas.{true_or_false, not_both, some_is, none_not_some, each_fails, none_passes, each_item_fails, no_item_passes}
 use Rattle.key_model.proofs.ValuedLemmas.{get-with_all}
 
 -- ---- truth values

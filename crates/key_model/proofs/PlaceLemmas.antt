@@ -2,20 +2,19 @@
 use Rattle.std.specs.Prelude.{◌≡◌, List, [], ◌∷◌, Bool, true, false, cond, ◌&&◌, ◌||◌, T, Some, None, Ok, Err, IsSome, is_some, is_none, filter, OnOk, OnErr}
 use Rattle.std.proofs.Common.{refl, sym, ◌∙◌, ap, subst, Bor}
 use Rattle.std.specs.declared.cmp.Ordering.{Ordering}
-use Rattle.std.specs.declared.cmp.Ordering.TheVariants.{Equal}
 use Rattle.std.specs.declared.option.Option.{Option}
 use Rattle.std.specs.declared.result.Result.{Result}
 use Rattle.std.specs.Option.{option_copied, option_or}
 use Rattle.std.specs.Ordering.{eq_by_cmp}
 use Rattle.std.specs.Cmp.{IsTotalOrder}
 use Rattle.std.specs.BTreeMap.{BTreeMap}
-use Rattle.std.specs.FinMap.{FinMap, IsAntisymmetric, entries, entries_sorted, find, get, insert, remove, retain_keys, empty, get-entries, get-from_entries, get-insert, get-remove, get-retain_keys, same_map, is_sorted, from_entries}
+use Rattle.std.specs.FinMap.{FinMap, IsAntisymmetric, entries, entries_sorted, find, get, insert, remove, retain_keys, empty, get-entries, get-from_entries, get-insert, get-remove, same_map, is_sorted, from_entries}
 use Rattle.std.specs.FinSet as sets
 use Rattle.tm_data.specs.Maps.{as_map, entries-empty}
 use Rattle.std.specs.Map.{keys_of}
 use Rattle.std.specs.List.{list_any}
 use Rattle.key_model.specs.Inside.{keep, kept, valued, there, HasAll, over}
-use Rattle.key_model.proofs.AnyLemmas.{none_below, first_of_both, second_of_both, not_both, equal, itself}
+use Rattle.key_index.proofs.AnyLemmas.{none_below, first_of_both, second_of_both, not_both, equal, itself, get-kept}
 
 -- a value, where there is a place that isn't empty
 abbrev pub or_gone : {X : Type 0} → Option (Option X) → Option X
@@ -37,12 +36,6 @@ pub valued-empty : {K X : Type 0} (R : K → K → Ordering) → valued {K = K} 
 valued-empty R = ap (λ es. from_entries {R = R} (kept es)) (entries-empty R)
 
 module _ {K : Type 0} {R : K → K → Ordering} (total : IsTotalOrder R) (exact : IsAntisymmetric R) where
-  alike : (p : K → Bool) (q x : K) → R q x ≡ Equal → p x ≡ p q
-  alike p q x h = ap p (sym (exact q x h))
-
-  pub get-kept : {Y : Type 0} (m : FinMap R Y) (p : K → Bool) (q : K) → get (retain_keys m p) q ≡ cond (p q) (get m q) None
-  get-kept m p q = get-retain_keys m p q (alike p q)
-
   get-over : {Y : Type 0} (m : FinMap R Y) (es : List (K × Y)) → T (is_sorted R es) → (q : K) → get (over m es) q ≡ option_or (find R q es) (get m q)
   get-over m [] s q = refl
   get-over m (e ∷ es) s q =
@@ -79,7 +72,7 @@ module _ {K : Type 0} {R : K → K → Ordering} (total : IsTotalOrder R) (exact
   pub retain-as_map : {Y : Type 0} (p : K → Bool) (m n : BTreeMap K Y) → n.entries ≡ filter (λ e. p e.0) m.entries → as_map {R = R} n ≡ retain_keys (as_map m) p
   retain-as_map p m n is = ap (from_entries {R = R}) is ∙ same_map total exact _ _ (λ q.
       get-from_entries total (filter (λ e. p e.0) m.entries) q ∙ find_filter p m.entries q
-      ∙ ap (λ o. cond (p q) o None) (sym (get-from_entries total m.entries q)) ∙ sym (get-kept (as_map m) p q))
+      ∙ ap (λ o. cond (p q) o None) (sym (get-from_entries total m.entries q)) ∙ sym (get-kept total exact (as_map m) p q))
 
 module _ {K X : Type 0} {R : K → K → Ordering} (total : IsTotalOrder R) (exact : IsAntisymmetric R) where
   find_kept : (es : List (K × Option X)) → T (is_sorted R es) → (q : K) → find R q (kept es) ≡ or_gone (find R q es)

@@ -9,7 +9,7 @@ use Rattle.key_model.specs.State.{State}
 use Rattle.key_model.specs.Steps.{txn_in, says_end, AnswersDoomed, AnswersLiving, Steps, Run}
 use Rattle.key_model.specs.After.{is_doomed, answered, after, after_all, told}
 use Rattle.key_model.specs.Took.{Took}
-use Rattle.key_model.proofs.AnyLemmas.{true_or_false, not_both, some_is, none_not_some}
+use Rattle.key_index.proofs.AnyLemmas.{true_or_false, not_both, some_is, none_not_some}
 use Rattle.key_model.proofs.LawLemmas.{not_true, true_not, gives, needs, doomed_true, true_doomed, answers_to, answers_from, settles_to, settles_from}
 use Rattle.key_model.proofs.CloseLemmas.{closes_to, closes_from, recovery_to, recovery_from}
 

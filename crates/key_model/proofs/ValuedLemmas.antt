@@ -16,8 +16,8 @@ use Rattle.tm_data.specs.Maps.{entries-from_entries}
 use Rattle.key_model.specs.Inside.{keep, kept, valued, HasPlace, HasPlaces}
 use Rattle.key_model.specs.Steps.{or_mapped}
 use Rattle.key_model.specs.After.{with_written, with_all}
-use Rattle.key_model.proofs.AnyLemmas as any
-use Rattle.key_model.proofs.AnyLemmas.{none_below, first_of_both, second_of_both, true_or_false, not_both, less_not_equal}
+use Rattle.key_index.proofs.AnyLemmas as any
+use Rattle.key_index.proofs.AnyLemmas.{none_below, first_of_both, second_of_both, true_or_false, not_both, less_not_equal}
 use Rattle.key_model.proofs.PlaceLemmas as generic
 use Rattle.key_model.proofs.PlaceLemmas.{or_gone}
 

@@ -14,6 +14,7 @@ use Rattle.tm_base.specs.declared.command.Command.TheVariants as command
 use Rattle.tm_base.specs.declared.reply.Reply.{Reply}
 use Rattle.tm_base.specs.declared.reply.Reply.TheVariants as reply
 use Rattle.tm_data.specs.Orders.{row_cmp}
+pub use Rattle.key_index.specs.Touched.{same_writer, same_txn, wrote_by_other, read_by_other}
 use Rattle.key_model.specs.declared.events.Ended.{Ended}
 use Rattle.key_model.specs.declared.events.PutKey.{PutKey}
 use Rattle.key_model.specs.declared.step.MachineStep.{MachineStep}
@@ -23,12 +24,6 @@ use Rattle.key_model.specs.State.{Open, DyingRow, State, dying_cmp}
 use Rattle.key_model.specs.Steps.{at, row_of, txn_in, OpenTxn, open_txn, seen, says_end, with_begun, with_read, with_write, with_free, with_settled}
 
 -- ---- the tests
-
-abbrev pub same_writer : Writer → Writer → Bool
-same_writer a b = nat_eq a.0 b.0
-
-abbrev pub same_txn : Txn → Txn → Bool
-same_txn a b = nat_eq a.writer.0 b.writer.0 && nat_eq a.number b.number
 
 abbrev pub same_row : RowKey → RowKey → Bool
 same_row a b = nat_eq a.table b.table && pointwise nat_eq a.key b.key
@@ -43,13 +38,6 @@ same_outcome false b = not b
 -- Whether one of the sessions has T.
 abbrev pub holds : List (Session × Txn) → Txn → Bool
 holds sessions t = list_any (λ e. same_txn e.1 t) sessions
-
--- Whether one of the open transactions, other than T, has written the key, or has read it.
-abbrev pub wrote_by_other : List (Txn × Open) → Txn → RowKey → Bool
-wrote_by_other opened t key = list_any (λ e. not (same_txn e.0 t) && is_some (fin.get e.1.writes key)) opened
-
-abbrev pub read_by_other : List (Txn × Open) → Txn → RowKey → Bool
-read_by_other opened t key = list_any (λ e. not (same_txn e.0 t) && sets.contains e.1.reads key) opened
 
 -- Whether one of the dying rows is this one.
 abbrev pub locks : List DyingRow → RowKey → Bool

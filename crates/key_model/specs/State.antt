@@ -2,7 +2,7 @@
 use Rattle.std.specs.Prelude.{ℕ, List, Bool, refl}
 use Rattle.std.specs.Ordering.{nat_cmp, ordering_then}
 use Rattle.std.specs.Cmp.{IsTotalOrder, nat_cmp_total}
-use Rattle.std.specs.Coded.{Coded, code_by, coded×, coded_ℕ, coded_bool, coded_list, coded_option}
+use Rattle.std.specs.Coded.{Coded, code_by, coded×, coded_ℕ, coded_bool, coded_list}
 use Rattle.std.specs.FinMap as fin
 use Rattle.std.specs.FinMap.{IsAntisymmetric}
 use Rattle.std.specs.FinSet as sets
@@ -10,11 +10,11 @@ use Rattle.std.proofs.Common.{ap}
 use Rattle.std.proofs.lemmas.Cmp.{then_total, on_total}
 use Rattle.std.proofs.lemmas.Map.Lookups.{exact_pairs, exact_unsigned}
 use Rattle.std.specs.declared.cmp.Ordering.{Ordering}
-use Rattle.std.specs.declared.option.Option.{Option}
 use Rattle.tm_data.specs.declared.transaction.Txn.{Txn}
 use Rattle.tm_data.specs.declared.row_map.RowKey.{RowKey}
 use Rattle.tm_data.specs.Orders.{row_cmp, coded_row, row_cmp-exact, row_cmp-total, writer_cmp, coded_writer, txn_cmp, coded_txn, txn_cmp-exact, txn_cmp-total}
-pub use Rattle.key_model.specs.declared.opened.Open.{Open}
+pub use Rattle.key_index.specs.declared.opened.Open.{Open}
+pub use Rattle.key_index.specs.Touched.{untouched, coded_open}
 pub use Rattle.key_model.specs.declared.closed.DyingRow.{DyingRow}
 use Rattle.key_model.specs.declared.sessions.Session.{Session}
 
@@ -43,14 +43,6 @@ dying_cmp-exact a b h = ap (λ (p : RowKey × Txn). record { row = p.0; txn = p.
 
 pub dying_cmp-total : IsTotalOrder dying_cmp
 dying_cmp-total = then_total (on_total (λ d. d.row) row_cmp-total) (on_total (λ d. d.txn) txn_cmp-total)
-
--- Nothing is read or written.
-abbrev pub untouched : Open
-untouched = record { reads = sets.empty; writes = fin.empty }
-
-abbrev pub coded_open : Coded Open
-coded_open = code_by (sets.FinSet row_cmp × fin.FinMap row_cmp (Option (List ℕ))) (coded× (sets.code coded_row) (fin.code coded_row (coded_option (coded_list coded_ℕ))))
-    (λ o. (o.reads, o.writes)) (λ p. record { reads = p.0; writes = p.1 }) (λ _. refl)
 
 pub record State : Type 0 where
   -- the committed value of each key that has one

@@ -1,59 +1,17 @@
 //! What is kept of writers that are closed.
-ghost use Rattle.std.specs.Prelude.{◌≡◌, not, OnOk, OnErr, None};
+ghost use Rattle.std.specs.Prelude.{◌≡◌, not, OnOk, OnErr, None, Some, IsSome};
+ghost use Rattle.tm_data.specs.Maps.{as_map};
 ghost use Rattle.std.specs.FinMap as fin;
 ghost use Rattle.std.specs.FinSet as sets;
 ghost use Rattle.key_model.specs.After.{same_writer, locks};
-ghost use Rattle.key_model.specs.Inside.{there, with_rows, HasAll};
+ghost use Rattle.key_model.specs.Inside.{there, with_rows, HasAll, no_txn, without_own};
 
+use crate::owned::OwnedRows;
 use std::alloc::Global;
-use std::collections::{BTreeMap, BTreeSet};
+use std::collections::BTreeMap;
 use std::marker::Model;
+use std::ops::Bound;
 use tm_base::{ItemList, Mem, NoMemory, RowKey, TryCopy, Txn, Writer};
-
-/// A set of writers. Contracts see the finite set.
-#[derive(Drop)]
-pub struct WriterSet {
-    writers: BTreeSet<Writer>,
-}
-
-impl Model for WriterSet {
-    ghost use Rattle.std.specs.FinSet as sets;
-    ghost use Rattle.tm_data.specs.Maps.{as_set};
-    ghost use Rattle.tm_data.specs.Orders.{writer_cmp, coded_writer};
-
-    ghost Value = { sets.FinSet writer_cmp };
-
-    ghost coded = { sets.code coded_writer };
-
-    ghost view = { λ s. as_set s.writers };
-}
-
-impl WriterSet {
-    /// No writers.
-    pub fn new(alloc: Global) -> WriterSet
-        ensures { result ≡ sets.empty }
-    {
-        WriterSet {
-            writers: BTreeSet::new(alloc),
-        }
-    }
-
-    /// Whether the writer is one of these.
-    pub fn contains(&self, writer: Writer) -> bool
-        ensures { result ≡ sets.contains self.now writer }
-    {
-        self.writers.contains(&writer)
-    }
-
-    /// Adds a writer, unless it is one of these.
-    pub fn insert(&mut self, writer: Writer) -> Mem<()>
-        ensures ok { OnOk result (self.new ≡ sets.insert self.old writer) }
-        ensures err { OnErr result (self.new ≡ self.old) }
-    {
-        self.writers.insert(writer)?;
-        Ok(())
-    }
-}
 
 /// A row that a transaction had written when its writer was closed, and that stays locked until the
 /// writer is recovered.
@@ -61,6 +19,19 @@ impl WriterSet {
 pub struct DyingRow {
     pub row: RowKey,
     pub txn: Txn,
+}
+
+impl DyingRow {
+    /// The place before those of each transaction at the row: transactions are numbered from 1.
+    pub fn first(row: RowKey) -> DyingRow
+        ensures { result ≡ record { row = row; txn = no_txn } }
+    {
+        let txn = Txn {
+            writer: Writer(0),
+            number: 0,
+        };
+        DyingRow { row, txn }
+    }
 }
 
 impl TryCopy for DyingRow {
@@ -81,6 +52,8 @@ pub type DyingList = ItemList<DyingRow>;
 #[derive(Drop)]
 pub struct DyingMap {
     places: BTreeMap<DyingRow, Option<()>>,
+    // By writer, the rows that may have a place: at least those that have.
+    owned: OwnedRows,
 }
 
 impl Model for DyingMap {
@@ -96,6 +69,10 @@ impl Model for DyingMap {
     ghost coded = { fin.code coded_dying (coded_option coded_unit) };
 
     ghost view = { λ m. as_map m.places };
+
+    ghost use Rattle.key_model.specs.Inside.{CoversPlaces};
+
+    ghost invariant = { λ m. CoversPlaces (as_map m.places) m.owned };
 }
 
 impl DyingMap {
@@ -105,19 +82,29 @@ impl DyingMap {
     {
         DyingMap {
             places: BTreeMap::new(alloc),
+            owned: OwnedRows::new(alloc),
         }
     }
 
-    // Sets the place of a row. Only a new row may want memory.
-    fn insert(&mut self, dying: DyingRow, place: Option<()>) -> Mem<()>
-        ensures ok { OnOk result (self.new ≡ fin.insert self.old dying place) }
+    // Makes an empty place for a row.
+    fn open(&mut self, dying: &DyingRow) -> Mem<()>
+        ensures ok { OnOk result (self.new ≡ fin.insert self.old dying.now None) }
         ensures err { OnErr result (self.new ≡ self.old) }
-        ensures absent { OnErr result (fin.get self.old dying ≡ None) }
     {
-        let Ok(_) = self.places.insert(dying, place) else {
+        self.owned.add(dying.copy()?)?;
+        let dying = dying.copy()?;
+        let Ok(_) = self.places.insert(dying, None) else {
             return Err(NoMemory);
         };
         Ok(())
+    }
+
+    // Locks a row that has a place.
+    fn lock(&mut self, dying: DyingRow)
+        requires { IsSome (fin.get self.old dying) }
+        ensures { self.new ≡ fin.insert self.old dying (Some tt) }
+    {
+        let _ = self.places.insert(dying, Some(()));
     }
 
     // Whether the row has a place.
@@ -135,7 +122,7 @@ impl DyingMap {
     {
         for dying in rows.as_slice().iter() {
             if !self.has(dying) {
-                self.insert(dying.copy()?, None)?;
+                self.open(dying)?;
             }
         }
         Ok(())
@@ -147,16 +134,22 @@ impl DyingMap {
         ensures { there self.new ≡ with_rows (there self.old) rows }
     {
         for dying in rows.into_vec() {
-            let _ = self.insert(dying, Some(()));
+            self.lock(dying);
         }
     }
 
-    /// Whether a transaction has locked the row.
-    pub fn locks(&self, key: &RowKey) -> bool
-        ensures { result ≡ locks (sets.items (there self.now)) key.now }
+    /// Whether a transaction has locked the row whose first place is `first`: a look at the places of
+    /// that row alone.
+    pub fn locks(&self, first: &DyingRow) -> bool
+        requires { first.now.txn ≡ no_txn }
+        ensures { result ≡ locks (sets.items (there self.now)) first.now.row }
     {
-        for (dying, place) in self.places.iter() {
-            if place.is_some() && dying.row == *key {
+        let onwards = (Bound::Included(first), Bound::Unbounded);
+        for (dying, place) in self.places.range(onwards) {
+            if dying.row != first.row {
+                return false;
+            }
+            if place.is_some() {
                 return true;
             }
         }
@@ -167,7 +160,19 @@ impl DyingMap {
     pub fn free(&mut self, writer: Writer)
         ensures { self.new ≡ fin.retain_keys self.old (λ d. not (same_writer d.txn.writer writer)) }
     {
-        self.places
-            .retain(|dying, _place| dying.txn.writer != writer);
+        if let Some(rows) = self.owned.take(writer) {
+            take_out(&mut self.places, writer, rows);
+        }
+    }
+}
+
+// Takes out the places of these rows, as far as they are the writer's.
+fn take_out(places: &mut BTreeMap<DyingRow, Option<()>>, writer: Writer, rows: DyingList)
+    ensures { as_map places.new ≡ without_own writer (as_map places.old) rows }
+{
+    for dying in rows.into_vec() {
+        if dying.txn.writer == writer {
+            let _ = places.remove(&dying);
+        }
     }
 }

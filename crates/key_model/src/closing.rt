@@ -4,9 +4,9 @@ ghost use Rattle.std.specs.FinMap as fin;
 ghost use Rattle.key_model.specs.Inside.{no_ending, with_ending, all_ending, is_left, rows_left, over};
 
 use crate::closed::{DyingList, DyingRow};
-use crate::opened::{Open, OpenMap};
 use crate::values::Places;
 use crate::{EndList, Ended, PutList};
+use key_index::{Open, OpenMap};
 use std::alloc::Global;
 use tm_base::{ItemList, Mem, RowKey, RowMap, TryCopy, Txn, TxnMap, Writer};
 

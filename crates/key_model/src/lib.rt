@@ -9,7 +9,7 @@ mod closing;
 mod events;
 pub mod laws;
 mod machine;
-mod opened;
+mod owned;
 mod sessions;
 mod settled;
 mod step;

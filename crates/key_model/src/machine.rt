@@ -4,16 +4,16 @@ ghost use Rattle.std.specs.FinMap as fin;
 ghost use Rattle.key_model.specs.State.{State, empty};
 ghost use Rattle.key_model.specs.Steps.{txn_in, open_txn, says_end, seen};
 ghost use Rattle.key_model.specs.After.{stepped, told, is_doomed, may_begin, after_begun, may_see, after_value, may_write, after_done, same_value, is_ended, after_ended, after_recovered, after_answer, after_settled, after_closing, after_recovery};
-ghost use Rattle.key_model.specs.Inside.{entries_of};
+ghost use Rattle.key_model.specs.Inside.{entries_of, no_txn};
 ghost use Rattle.key_model.specs.Took.{Took};
 
-use crate::closed::{DyingMap, WriterSet};
+use crate::closed::{DyingMap, DyingRow};
 use crate::closing::{ending_of, rows_of};
-use crate::opened::{Open, OpenMap};
 use crate::sessions::{Session, SessionMap};
 use crate::settled::{Outcomes, enter_end, enter_ends, outcome_of, reserve_ends};
 use crate::values::{Entry, EntryList, Places, enter, reserve};
 use crate::{EndList, MachineStep, PutList};
+use key_index::{Open, OpenMap, WriterSet};
 use std::alloc::Global;
 use std::marker::Model;
 use tm_base::{
@@ -22,8 +22,9 @@ use tm_base::{
 
 /// The plain machine, running: contracts see its whole state.
 ///
-/// A step costs a look at each open transaction and each session, and a look-up in the maps; a
-/// transaction's settling costs a look-up for each key that it wrote.
+/// A step costs a look-up in the maps and at the transactions that hold its row, whatever else is
+/// open, in a session or locked. A settling costs a look-up for each key that was read or written, a
+/// close one for each that it takes out, and a recovery one for each row that it frees.
 #[derive(Drop)]
 pub struct Machine {
     alloc: Global,
@@ -255,12 +256,13 @@ impl Machine {
     }
 
     // Whether an open transaction may be told this value of the key.
-    fn may_see(&self, txn: &Txn, touched: &Open, key: &RowKey, value: &Option<Value>) -> bool
-        ensures { result ≡ may_see self.now txn.now touched.now key.now value.now }
+    fn may_see(&self, txn: &Txn, touched: &Open, at: &DyingRow, value: &Option<Value>) -> bool
+        requires { at.now.txn ≡ no_txn }
+        ensures { result ≡ may_see self.now txn.now touched.now at.now.row value.now }
     {
-        !self.opened.other_wrote(txn, key)
-            && !self.dying.locks(key)
-            && self.sees(touched, key, value)
+        !self.opened.other_wrote(txn, &at.row)
+            && !self.dying.locks(at)
+            && self.sees(touched, &at.row, value)
     }
 
     fn value(&mut self, mine: Option<Txn>, key: RowKey, value: &Option<Value>) -> Mem<bool>
@@ -273,22 +275,24 @@ impl Machine {
         let Some(touched) = self.opened.get(&txn) else {
             return Ok(false);
         };
-        if !self.may_see(&txn, touched, &key, value) {
+        let at = DyingRow::first(key);
+        if !self.may_see(&txn, touched, &at, value) {
             return Ok(false);
         }
-        if touched.writes.get(&key).is_none() {
-            self.opened.read(&txn, key)?;
+        if touched.writes.get(&at.row).is_none() {
+            self.opened.read(&txn, at.row)?;
         }
         Ok(true)
     }
 
     // Whether a transaction may write the key, if it is open.
-    fn may_write(&self, txn: &Txn, key: &RowKey) -> bool
-        ensures { result ≡ may_write self.now txn.now key.now }
+    fn may_write(&self, txn: &Txn, at: &DyingRow) -> bool
+        requires { at.now.txn ≡ no_txn }
+        ensures { result ≡ may_write self.now txn.now at.now.row }
     {
-        !self.opened.other_wrote(txn, key)
-            && !self.opened.other_read(txn, key)
-            && !self.dying.locks(key)
+        !self.opened.other_wrote(txn, &at.row)
+            && !self.opened.other_read(txn, &at.row)
+            && !self.dying.locks(at)
     }
 
     fn done(&mut self, mine: Option<Txn>, key: RowKey, value: Option<ByteList>) -> Mem<bool>
@@ -301,10 +305,11 @@ impl Machine {
         if self.opened.get(&txn).is_none() {
             return Ok(false);
         }
-        if !self.may_write(&txn, &key) {
+        let at = DyingRow::first(key);
+        if !self.may_write(&txn, &at) {
             return Ok(false);
         }
-        self.opened.write(&txn, key, value)?;
+        self.opened.write(&txn, at.row, value)?;
         Ok(true)
     }
 

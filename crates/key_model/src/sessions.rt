@@ -3,10 +3,12 @@ ghost use Rattle.std.specs.Prelude.{◌≡◌, OnOk, OnErr};
 ghost use Rattle.std.specs.FinMap as fin;
 ghost use Rattle.std.specs.Option.{option_copied};
 ghost use Rattle.key_model.specs.After.{holds};
+ghost use Rattle.key_model.specs.Inside.{has_txn, first_held};
 
 use std::alloc::Global;
-use std::collections::BTreeMap;
+use std::collections::{BTreeMap, BTreeSet};
 use std::marker::Model;
+use std::ops::Bound;
 use tm_base::{Mem, Txn, Writer};
 
 /// A session of a writer. Sessions are numbered by whoever opens them.
@@ -16,10 +18,32 @@ pub struct Session {
     pub number: u16,
 }
 
+/// A transaction with a session that may have it.
+#[derive(Clone, Copy, Debug, PartialEq, Eq, PartialOrd, Ord)]
+pub struct Held {
+    pub txn: Txn,
+    pub session: Session,
+}
+
+impl Held {
+    /// The place before those of the sessions that may have the transaction.
+    fn first(txn: Txn) -> Held
+        ensures { result ≡ first_held txn }
+    {
+        let session = Session {
+            writer: Writer(0),
+            number: 0,
+        };
+        Held { txn, session }
+    }
+}
+
 /// The transaction of each session that has one. Contracts see the finite map.
 #[derive(Drop)]
 pub struct SessionMap {
     txns: BTreeMap<Session, Txn>,
+    // By transaction, the sessions that may have it: at least those that have.
+    held: BTreeSet<Held>,
 }
 
 impl Model for SessionMap {
@@ -34,6 +58,11 @@ impl Model for SessionMap {
     ghost coded = { fin.code coded_session coded_txn };
 
     ghost view = { λ m. as_map m.txns };
+
+    ghost use Rattle.tm_data.specs.Maps.{as_set};
+    ghost use Rattle.key_model.specs.Inside.{CoversTxns};
+
+    ghost invariant = { λ m. CoversTxns (as_map m.txns) (as_set m.held) };
 }
 
 impl SessionMap {
@@ -43,6 +72,7 @@ impl SessionMap {
     {
         SessionMap {
             txns: BTreeMap::new(alloc),
+            held: BTreeSet::new(alloc),
         }
     }
 
@@ -58,6 +88,7 @@ impl SessionMap {
         ensures ok { OnOk result (self.new ≡ fin.insert self.old session txn) }
         ensures err { OnErr result (self.new ≡ self.old) }
     {
+        self.held.insert(Held { txn, session })?;
         self.txns.insert(session, txn)?;
         Ok(())
     }
@@ -66,18 +97,35 @@ impl SessionMap {
     pub fn remove(&mut self, session: &Session)
         ensures { self.new ≡ fin.remove self.old session.now }
     {
-        let _ = self.txns.remove(session);
+        if let Some(txn) = self.txns.remove(session) {
+            let session = *session;
+            let _ = self.held.remove(&Held { txn, session });
+        }
     }
 
     /// Whether a session has this transaction.
     pub fn has(&self, txn: &Txn) -> bool
         ensures { result ≡ holds (fin.entries self.now) txn.now }
     {
-        for (_, own) in self.txns.iter() {
-            if *own == *txn {
+        let onwards = (Bound::Included(Held::first(*txn)), Bound::Unbounded);
+        for held in self.held.range(onwards) {
+            if held.txn != *txn {
+                return false;
+            }
+            if self.is_in(&held.session, txn) {
                 return true;
             }
         }
         false
+    }
+
+    // Whether the session has this transaction.
+    fn is_in(&self, session: &Session, txn: &Txn) -> bool
+        ensures { result ≡ has_txn (fin.get self.now session.now) txn.now }
+    {
+        match self.txns.get(session) {
+            Some(own) => *own == *txn,
+            None => false,
+        }
     }
 }

@@ -9,7 +9,7 @@ use Rattle.tm_data.specs.Orders.{row_cmp, txn_cmp}
 use Rattle.tm_base.specs.declared.command.Command.{Command}
 use Rattle.tm_base.specs.declared.reply.Reply.{Reply}
 use Rattle.key_model.specs.State as machine
-use Rattle.key_model.specs.declared.opened.Open.{Open}
+use Rattle.key_index.specs.declared.opened.Open.{Open}
 use Rattle.key_model.specs.Steps.{at, seen, Steps, Run}
 use Rattle.key_model.specs.After.{after, told}
 use Rattle.key_model.specs.declared.step.MachineStep.{MachineStep}

@@ -5,7 +5,7 @@ use Rattle.std.specs.declared.option.Option.{Option}
 use Rattle.tm_data.specs.declared.transaction.Txn.{Txn}
 use Rattle.tm_base.specs.declared.reply.Reply.{Reply}
 use Rattle.key_model.specs.State as machine
-use Rattle.key_model.specs.declared.opened.Open.{Open}
+use Rattle.key_index.specs.declared.opened.Open.{Open}
 use Rattle.key_model.specs.Steps.{seen, row_of}
 use Rattle.net_world.specs.declared.session.PlainSession.{PlainSession}
 use Rattle.net_world.specs.declared.step.PlainOutcome.TheVariants.{Fine, Answer}

@@ -15,7 +15,7 @@ use Rattle.tm_base.specs.declared.command.Command.TheVariants as command
 use Rattle.tm_base.specs.declared.reply.Reply.{Reply}
 use Rattle.tm_base.specs.declared.reply.Reply.TheVariants as reply
 use Rattle.key_model.specs.State as machine
-use Rattle.key_model.specs.declared.opened.Open.{Open}
+use Rattle.key_index.specs.declared.opened.Open.{Open}
 use Rattle.key_model.specs.State.{dying_cmp, session_cmp, session_cmp-total, session_cmp-exact, untouched}
 use Rattle.key_model.specs.Steps.{at, seen, row_of, or_mapped, with_begun, with_read, with_write, with_free, with_settled, IsDoomed, NeverBegun, NoOtherWrote, NoOtherRead, NoneDying, Answers, OpenTxn, open_txn, with_touched, IsValue, IsDone, Steps, Commits, Settles}
 use Rattle.key_model.specs.After.{after, after_settled, with_all}

@@ -8,7 +8,7 @@ use Rattle.std.specs.declared.option.Option.{Option}
 use Rattle.tm_data.specs.declared.transaction.Txn.{Txn}
 use Rattle.tm_data.specs.Orders.{txn_cmp, txn_cmp-total, txn_cmp-exact}
 use Rattle.key_model.specs.State as machine
-use Rattle.key_model.specs.declared.opened.Open.{Open}
+use Rattle.key_index.specs.declared.opened.Open.{Open}
 use Rattle.key_model.specs.Steps.{with_settled, or_mapped, Run, Steps}
 use Rattle.key_model.specs.After.{with_all, told}
 use Rattle.key_model.specs.declared.step.MachineStep.{MachineStep}

@@ -10,7 +10,7 @@ use Rattle.net_world.specs.declared.step.PlainStep.{PlainStep}
 use Rattle.net_world.specs.declared.step.PlainStep.TheVariants.{Begin, Get, Put, Commit, Deliver}
 use Rattle.tm_data.specs.declared.row_map.RowKey.{RowKey}
 use Rattle.key_model.specs.State as machine
-use Rattle.key_model.specs.declared.opened.Open.{Open}
+use Rattle.key_index.specs.declared.opened.Open.{Open}
 use Rattle.key_model.specs.Steps.{seen, row_of}
 use Rattle.net_world.specs.World.{State, txn_of, next_group}
 

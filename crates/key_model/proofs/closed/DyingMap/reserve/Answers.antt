@@ -6,7 +6,7 @@ use Rattle.key_model.specs.State.{dying_cmp-total, dying_cmp-exact}
 use Rattle.key_model.specs.Inside.{there}
 use Rattle.key_model.proofs.PlaceLemmas.{Reserves, reserves_new, reserves_old, reserved, same_there, none_where_not}
 use Rattle.key_model.proofs.closed.DyingMap.reserve.Goals as goal
-use Rattle.key_model.proofs.closed.DyingMap.reserve.Goals.{then-not-has+in_ok-copy+in_ok-insert, else-not-has}
+use Rattle.key_model.proofs.closed.DyingMap.reserve.Goals.{then-not-has+in_ok-open, else-not-has}
 
 pub loop-dying-preserved : goal.loop-dying-preserved
 loop-dying-preserved c =
@@ -19,7 +19,7 @@ loop-dying-preserved c =
     let at : get_or rows i k ≡ k = ap (λ xs. get_or xs i k) (sym same) ∙ (search rules) in
     let cut : drop i rows ≡ k ∷ drop (i + 1) rows = drop_more rows i k (subst (λ xs. i < length xs) same c.loop-dying-test.true) ∙ ap (λ x. x ∷ drop (i + 1) rows) at in
     elim c.if-not-has.branch [
-      | then-not-has+in_ok-copy+in_ok-insert w ↦
+      | then-not-has+in_ok-open w ↦
           let new : c.if-not-has.self ≡ fin.insert m k None = search rules in
           let none : fin.get m k ≡ None = none_where_not (fin.get m k) (search rules) in (
             same_there dying_cmp-total dying_cmp-exact m c.if-not-has.self c.args.self.now k new none inv.0,

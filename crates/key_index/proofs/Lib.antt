@@ -1,0 +1,5 @@
+pub mod AnyLemmas
+mod CoverLemmas
+mod HolderLemmas
+mod LeaveLemmas
+mod OpenLemmas

@@ -1,0 +1,16 @@
+use Rattle.std.proofs.Common.{◌∙◌, sym, ap, subst}
+use Rattle.key_index.specs.Touched.{Covers, read}
+use Rattle.key_index.proofs.CoverLemmas.{held_by_other, held_is, held_none}
+use Rattle.key_index.proofs.opened.OpenMap.other_read.Goals as goal
+
+pub returns-in_default : goal.returns-in_default
+returns-in_default c =
+    sym (held_none read c.args.self.now c.args.txn.now c.args.key.now c.self.inside.readers (subst (λ n. Covers read n c.self.inside.readers) c.self.view_is c.self.invariant.1) (sym c.in_default.ensures))
+
+pub loop-other-init : goal.loop-other-init
+loop-other-init c = (
+  tt,
+  tt,
+  ap (λ ts. held_by_other read ts c.args.self.now c.args.txn.now c.args.key.now) (c.into_iter-other-iterator.ensures.into_iter_gives ∙ c.iter-other-items.ensures.rest)
+      ∙ held_is read c.args.self.now c.args.txn.now c.args.key.now c.self.inside.readers c.in-Some.holders.now (subst (λ n. Covers read n c.self.inside.readers) c.self.view_is c.self.invariant.1) (sym c.in-Some.ensures),
+)
