@@ -28,3 +28,4 @@ mod EndedLemmas
 mod CauseLemmas
 mod EpochLemmas
 mod StageLemmas
+mod KeptLemmas

@@ -372,8 +372,8 @@ tag_moves = record {
     h.1,
     record { had = λ t at. has_recalled w.leases page epoch t.page (h.2.had t at); binds = h.2.binds },
   );
-  give_back = λ w page is h. (
-    page_moves.give_back w page is h.0,
+  give_back = λ w page is came h. (
+    page_moves.give_back w page is tt h.0,
     h.1,
     let all = gone_tags w page h.2 in record { had = λ t at. (all t at).0; binds = λ t at. (all t at).1 },
   );

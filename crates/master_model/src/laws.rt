@@ -23,7 +23,8 @@ ghost use Rattle.master_model.specs.Step.{on_command, start, step, tick};
 ghost use Rattle.master_model.specs.Facts.{Brings, DurableEnd, EndIsDurable, Facts, GrantIsBegun, JoinsAfter, Lacks, OwnTags, TagsAreBegun, WorkFacts, own_txn};
 ghost use Rattle.master_model.specs.Goes.{Goes};
 ghost use Rattle.master_model.specs.Told.{Sent};
-ghost use Rattle.master_model.specs.Causes.{AcknowledgesOwn, EpochCame, Joins, WriterStays, epoch_in, is_noted, roster_in};
+ghost use Rattle.master_model.specs.Causes.{AcknowledgesOwn, EpochCame, Joins, LeftSent, WriterStays, epoch_in, is_noted, left_in, roster_in};
+ghost use Rattle.master_model.specs.declared.left.Left.{Left};
 ghost use Rattle.master_model.specs.Stages.{RecoveryGoes, RecoveryIsAsked, StagesAreSaid};
 
 /// What holds in every state holds at the start, where nothing is known yet. It speaks of the start alone: refused is
@@ -228,4 +229,12 @@ pub fn the_roster_is_one_that_came()
     ensures start { (number boot stores : ℕ) → roster_in (start number boot stores).0.life ≡ [] }
     ensures message { (s : State) (m : Message) → (roster_in (step s m).0.life ≡ roster_in s.life) ⊎ (m.note ≡ note.Roster (roster_in (step s m).0.life)) }
     ensures command { (s : State) (session : ℕ) (asked : Command) → roster_in (on_command s session asked).0.life ≡ roster_in s.life }
+{}
+
+/// What is kept of a page that is being given back was kept before the step, or its Release was sent in it with just
+/// this body. A command gives no page back. So each body that is kept, and sent again, is one that was sent. Refused
+/// is a master that keeps another epoch than it tells, and one that keeps what it tells before it is sent.
+pub fn what_is_kept_of_a_page_was_sent()
+    ensures message { (s : State) (m : Message) (page : ℕ) (body : Left) → Brings m → left_in (step s m).0.life page ≡ Some body → (left_in s.life page ≡ Some body) ⊎ LeftSent (step s m).0.life (step s m).1 page body }
+    ensures command { (s : State) (session : ℕ) (asked : Command) (page : ℕ) (body : Left) → left_in (on_command s session asked).0.life page ≡ Some body → left_in s.life page ≡ Some body }
 {}
