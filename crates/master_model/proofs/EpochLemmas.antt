@@ -24,8 +24,8 @@ use Rattle.master_model.specs.Step as does
 use Rattle.master_model.specs.Step.{step, on_command}
 use Rattle.master_model.specs.Facts.{Brings}
 use Rattle.master_model.specs.Causes.{EpochCame, GivesFresh, GrantsAt, Joins, WriterStays, epoch_in}
-use Rattle.master_model.proofs.Moves.{Cause, Acked, Granted, Fresh, GivenBack, ClosedFor}
-use Rattle.master_model.proofs.StepMoves.{Allows, AllowsAck, AllowsFresh, backs_any}
+use Rattle.master_model.proofs.Moves.{AnyCause, Cause, Acked, Granted, Fresh, GivenBack, ClosedFor}
+use Rattle.master_model.proofs.StepMoves.{Allows, AllowsAck, AllowsFresh, any_allowed, backs_any}
 use Rattle.master_model.proofs.CauseLemmas.{IsOf, Moved, asked_moves, brings_its_own, joins_or_not, message_moves, writer_moves}
 
 -- ---- a life
@@ -41,22 +41,8 @@ stays_of None new h = tt
 stays_of (Some old) None h = h
 stays_of (Some old) (Some new) h = h
 
-any_allowed : (w : Work) (from : Node) (n : Note) → Allows (λ w cause. Unit {0}) w from n
-any_allowed w from (note.Ack writer seq) = by from
-  where
-    by : (from : Node) → AllowsAck (λ w cause. Unit {0}) w writer seq from
-    by (LogStore store) = λ is. tt
-    by other = tt
-any_allowed w from (note.Grant writer page epoch of tags vector) = λ is. tt
-any_allowed w from (note.FreshIs writer nth page) = by page
-  where
-    by : (o : Option Page) → AllowsFresh (λ w cause. Unit {0}) w writer o
-    by None = tt
-    by (Some page) = λ is. tt
-any_allowed w from other = tt
-
 pub writer_after_message : (s : State) (m : Message) → Brings m → WriterStays s.life (step s m).0.life
-writer_after_message s m brings = stays_of s.life (step s m).0.life (message_moves writer_moves s m brings (λ l is. any_allowed (does.heard l m.stamp.0).work m.from m.note) (backs_any (λ w cause. Unit {0}) (λ w page. tt) m.note))
+writer_after_message s m brings = stays_of s.life (step s m).0.life (message_moves writer_moves s m brings (λ l is. any_allowed (does.heard l m.stamp.0).work m.from m.note) (backs_any AnyCause (λ w page. tt) m.note))
 
 pub writer_after_command : (s : State) (session : ℕ) (asked : Command) → WriterStays s.life (on_command s session asked).0.life
 writer_after_command s session asked = stays_of s.life (on_command s session asked).0.life (asked_moves writer_moves s session asked)

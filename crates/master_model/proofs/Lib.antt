@@ -5,6 +5,7 @@ mod Moves
 mod StepMoves
 mod GoesLemmas
 mod LackLemmas
+mod PlaceLemmas
 mod StepGoes
 mod FactLemmas
 mod PageLemmas
@@ -29,3 +30,4 @@ mod CauseLemmas
 mod EpochLemmas
 mod StageLemmas
 mod KeptLemmas
+mod SaidLemmas

@@ -441,7 +441,7 @@ any_fresh : (w : Work) (writer : Writer) (page : Option Page) → AllowsFresh An
 any_fresh w writer None = tt
 any_fresh w writer (Some page) = λ is. tt
 
-any_allowed : (w : Work) (from : Node) (n : Note) → Allows AnyCause w from n
+pub any_allowed : (w : Work) (from : Node) (n : Note) → Allows AnyCause w from n
 any_allowed w from (note.Ack writer seq) = any_ack w writer seq from
 any_allowed w from (note.Grant writer page epoch of tags vector) = λ is. tt
 any_allowed w from (note.FreshIs writer nth page) = any_fresh w writer page

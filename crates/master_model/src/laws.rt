@@ -22,7 +22,7 @@ ghost use Rattle.master_model.specs.Replies.{PathIsHere, QuietOrAsking, Reads, S
 ghost use Rattle.master_model.specs.Step.{on_command, start, step, tick};
 ghost use Rattle.master_model.specs.Facts.{Brings, DurableEnd, EndIsDurable, Facts, GrantIsBegun, JoinsAfter, Lacks, OwnTags, TagsAreBegun, WorkFacts, own_txn};
 ghost use Rattle.master_model.specs.Goes.{Goes};
-ghost use Rattle.master_model.specs.Told.{Sent};
+ghost use Rattle.master_model.specs.Told.{IsNamed, MessageFact, Sent};
 ghost use Rattle.master_model.specs.Causes.{AcknowledgesOwn, EpochCame, Joins, LeftSent, WriterStays, epoch_in, is_noted, left_in, roster_in};
 ghost use Rattle.master_model.specs.declared.left.Left.{Left};
 ghost use Rattle.master_model.specs.Stages.{RecoveryGoes, RecoveryIsAsked, StagesAreSaid};
@@ -85,8 +85,9 @@ pub fn what_is_lacked_is_of_the_log()
 
 /// How a message moves the state on: the log grows at its end alone and loses no acknowledgement, so what is durable
 /// stays so; scalar and heard stamps never fall, nor do epochs of pages and the numbers of transactions and requests;
-/// an end that is known stays known, and so does a writer's recovery; a fenced master stays fenced. Refused is a
-/// Roster that lifts the fence, a grant at a lower epoch, and an acknowledgement that takes another one back.
+/// in one epoch a lease goes from held over recalled and given back to none, and what is kept of a page that is being
+/// given back stays; an end that is known stays known, and so does a writer's recovery; a fenced master stays fenced.
+/// Refused is a Roster that lifts the fence, a grant at a lower epoch, and an acknowledgement that takes another one back.
 pub fn a_message_goes()
     ensures { (begun : ℕ) (s : State) (m : Message) → Facts begun s → Brings m → Goes s (step s m).0 }
 {}
@@ -237,4 +238,27 @@ pub fn the_roster_is_one_that_came()
 pub fn what_is_kept_of_a_page_was_sent()
     ensures message { (s : State) (m : Message) (page : ℕ) (body : Left) → Brings m → left_in (step s m).0.life page ≡ Some body → (left_in s.life page ≡ Some body) ⊎ LeftSent (step s m).0.life (step s m).1 page body }
     ensures command { (s : State) (session : ℕ) (asked : Command) (page : ℕ) (body : Left) → left_in (on_command s session asked).0.life page ≡ Some body → left_in s.life page ≡ Some body }
+{}
+
+/// A life is of this master, and deals out the pages to as many page stores, in every state. Refused is a master that
+/// joins as the number of its boot.
+pub fn a_life_is_of_its_master()
+    ensures start { (number boot stores : ℕ) → IsNamed (start number boot stores).0 }
+    ensures message { (begun : ℕ) (s : State) (m : Message) → Facts begun s → Brings m → IsNamed s → IsNamed (step s m).0 }
+    ensures command { (begun : ℕ) (s : State) (session : ℕ) (asked : Command) → Facts begun s → IsNamed s → IsNamed (on_command s session asked).0 }
+{}
+
+/// What is sent says what stays so: an Append's group stands in the log at its number; a Stable's number is durable; a
+/// RequestFresh has a number up to the one after the last that was answered; a page that was released is over in that
+/// epoch, or is being given back with just the body that was told; a transaction of which it was told that it has ended
+/// has a durable end. Refused is a Fate that says ended of a transaction whose end is logged and not durable.
+pub fn sent_messages_say_what_stays()
+    ensures { (begun : ℕ) (s : State) (messages : List Message) → Facts begun s → IsNamed s → Sent s messages → AllByRecursion (MessageFact s) messages }
+{}
+
+/// And it stays so, however the state goes on. It speaks of the relation alone: refused is one by which a page that was
+/// given back may be recalled once more in its epoch, and one by which what is kept of it may change. A step that does
+/// so is refused by `a_message_goes`.
+pub fn what_messages_say_stays()
+    ensures { (s t : State) (m : Message) → Goes s t → MessageFact s m → MessageFact t m }
 {}
