@@ -31,3 +31,4 @@ mod EpochLemmas
 mod StageLemmas
 mod KeptLemmas
 mod SaidLemmas
+mod DoneLemmas

@@ -18,7 +18,7 @@ ghost use Rattle.master_model.specs.State.{Life, State, Work};
 ghost use Rattle.master_model.specs.Fates.{has_ended, is_open, is_own};
 ghost use Rattle.master_model.specs.Tags.{PageTag};
 ghost use Rattle.master_model.specs.Reads.{get};
-ghost use Rattle.master_model.specs.Replies.{PathIsHere, QuietOrAsking, Reads, SaysDurableIn, SaysEndIn};
+ghost use Rattle.master_model.specs.Replies.{MayGetIn, MayPutIn, PathIsHere, QuietOrAsking, Reads, SaysDurableIn, SaysEndIn};
 ghost use Rattle.master_model.specs.Step.{on_command, start, step, tick};
 ghost use Rattle.master_model.specs.Facts.{Brings, DurableEnd, EndIsDurable, Facts, GrantIsBegun, JoinsAfter, Lacks, OwnTags, TagsAreBegun, WorkFacts, own_txn};
 ghost use Rattle.master_model.specs.Goes.{Goes};
@@ -261,4 +261,20 @@ pub fn sent_messages_say_what_stays()
 /// so is refused by `a_message_goes`.
 pub fn what_messages_say_stays()
     ensures { (s t : State) (m : Message) → Goes s t → MessageFact s m → MessageFact t m }
+{}
+
+/// A get is answered a value where a session's transaction hasn't begun to end, the key's path is held, not recalled and
+/// in the pool, its row is the own transaction's or one's that is known to have ended, and the leaf has fewer than 4,096
+/// shared locks. Refused is a get that asks for a fate which is known, and one that refuses the last shared lock.
+pub fn a_get_that_meets_no_lock_is_answered()
+    ensures { (s : State) (session table : ℕ) (key : List ℕ) → MayGetIn s.life session table key → (value : Option (List ℕ)) × ((on_command s session (command.Get table key)).1 ≡ reply.Value value) }
+{}
+
+/// A put or a del that is so placed is done where the shared locks on its key bind nobody, nor those of other writers on
+/// a leaf that splits; where the pages that split have their fresh pages in stock and in the pool, and a root that
+/// splits is below the greatest level; and where group numbers and stamps last. Refused is a put that is locked by a
+/// reader that has ended, one that asks for one more fresh page than it wants, and one that stops one group too early.
+pub fn a_put_that_meets_no_lock_is_done()
+    ensures put { (s : State) (session table : ℕ) (key value : List ℕ) → MayPutIn s.life session table key (Some value) → (on_command s session (command.Put table key value)).1 ≡ reply.Done }
+    ensures del { (s : State) (session table : ℕ) (key : List ℕ) → MayPutIn s.life session table key None → (on_command s session (command.Del table key)).1 ≡ reply.Done }
 {}
