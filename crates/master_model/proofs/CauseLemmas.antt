@@ -77,7 +77,7 @@ writer_moves = record {
   image = λ w image held same. image_writer w _;
   fresh_page = λ w page is came. refl;
   fresh_none = λ w. refl;
-  recall = λ w page epoch. refl;
+  recall = λ w page epoch came. refl;
   give_back = λ w page is came. refl;
   release = λ w page epoch is. refl;
   path = λ w path. refl;
@@ -148,7 +148,7 @@ module _ (P : Writer → ℕ → ℕ → Type 0) where
     image = λ w image held same. image_marks w _;
     fresh_page = λ w page is came. marks_stay w.log;
     fresh_none = λ w. marks_stay w.log;
-    recall = λ w page epoch. marks_stay w.log;
+    recall = λ w page epoch came. marks_stay w.log;
     give_back = λ w page is came. marks_stay w.log;
     release = λ w page epoch is. marks_stay w.log;
     path = λ w path. marks_stay w.log;

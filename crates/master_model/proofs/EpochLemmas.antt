@@ -149,7 +149,7 @@ module _ (P : ℕ → ℕ → Type 0) where
     image = λ w image held same. image_epochs w _;
     fresh_page = λ w page is came. granted_epochs w.leases page.0 1 (record { 0 = 0 }) came;
     fresh_none = λ w. stay w.leases;
-    recall = λ w page epoch. recalled_epochs w.leases page epoch;
+    recall = λ w page epoch came. recalled_epochs w.leases page epoch;
     give_back = λ w page is came. releasing_epochs w.leases page;
     release = λ w page epoch is. released_epochs w.leases page epoch;
     path = λ w path. stay w.leases;

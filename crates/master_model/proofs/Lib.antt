@@ -32,3 +32,4 @@ mod StageLemmas
 mod KeptLemmas
 mod SaidLemmas
 mod DoneLemmas
+mod RestLemmas

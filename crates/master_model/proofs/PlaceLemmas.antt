@@ -185,7 +185,7 @@ place_moves = record {
   image = λ w image held same. image_places w _;
   fresh_page = λ w page is came. places_granted w.leases w.left w.left page.0 1 (record { 0 = 0 }) (fresh_later w.leases page.0 (second_of_two (nat_lt 1024 page.0) (nat_eq (lease_of w.leases page.0).epoch 0) is)) (λ q other. refl);
   fresh_none = λ w. places_stay w.leases w.left;
-  recall = λ w page epoch. places_recalled w.leases w.left page epoch;
+  recall = λ w page epoch came. places_recalled w.leases w.left page epoch;
   give_back = λ w page is came. places_back w page (first_of_two (is_recalled (lease_of w.leases page).state) _ is);
   release = λ w page epoch is. places_over w page epoch is;
   path = λ w path. places_stay w.leases w.left;

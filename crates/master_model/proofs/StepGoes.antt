@@ -94,7 +94,7 @@ rest_moves = record {
   image = λ w image held same. image_rest w _;
   fresh_page = λ w page is came. record { number = refl; stores = refl; ends = λ t h. h; begun = omega arith; fresh = omega arith };
   fresh_none = λ w. record { number = refl; stores = refl; ends = λ t h. h; begun = omega arith; fresh = omega arith };
-  recall = λ w page epoch. rest_same w _ refl refl refl refl refl;
+  recall = λ w page epoch came. rest_same w _ refl refl refl refl refl;
   give_back = λ w page is came. rest_same w _ refl refl refl refl refl;
   release = λ w page epoch is. rest_same w _ refl refl refl refl refl;
   path = λ w path. rest_same w _ refl refl refl refl refl;

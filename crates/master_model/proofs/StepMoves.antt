@@ -197,7 +197,7 @@ module _ {G : Work → Cause → Type 0} {R : Work → Work → Type 0} (c : Clo
       in_state : (l : Lease) → R w (leases.on_recall_in w page epoch l).0
       in_state lease.Held =
           let told : Work = record w { leases = recalled w.leases page epoch } in
-          c.both w told _ (c.recall w page epoch) (ready_moves back told page)
+          c.both w told _ (c.recall w page epoch (back w page)) (ready_moves back told page)
       in_state lease.Releasing = c.none w
       in_state other = c.none w
 

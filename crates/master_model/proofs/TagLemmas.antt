@@ -367,8 +367,8 @@ tag_moves = record {
     record { had = λ t at. has_granted w.leases page.0 1 (record { 0 = 0 }) t.page (h.2.had t at); binds = h.2.binds },
   );
   fresh_none = λ w h. (h.0, h.1, record { had = h.2.had; binds = h.2.binds });
-  recall = λ w page epoch h. (
-    page_moves.recall w page epoch h.0,
+  recall = λ w page epoch came h. (
+    page_moves.recall w page epoch tt h.0,
     h.1,
     record { had = λ t at. has_recalled w.leases page epoch t.page (h.2.had t at); binds = h.2.binds },
   );

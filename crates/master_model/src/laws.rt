@@ -20,7 +20,7 @@ ghost use Rattle.master_model.specs.Tags.{PageTag};
 ghost use Rattle.master_model.specs.Reads.{get};
 ghost use Rattle.master_model.specs.Replies.{MayGetIn, MayPutIn, PathIsHere, QuietOrAsking, Reads, SaysDurableIn, SaysEndIn};
 ghost use Rattle.master_model.specs.Step.{on_command, start, step, tick};
-ghost use Rattle.master_model.specs.Facts.{Brings, DurableEnd, EndIsDurable, Facts, GrantIsBegun, JoinsAfter, Lacks, OwnTags, TagsAreBegun, WorkFacts, own_txn};
+ghost use Rattle.master_model.specs.Facts.{Brings, DurableEnd, EndIsDurable, Facts, GrantIsBegun, JoinsAfter, Lacks, LifeRests, OwnTags, TagsAreBegun, WorkFacts, own_txn};
 ghost use Rattle.master_model.specs.Goes.{Goes};
 ghost use Rattle.master_model.specs.Told.{IsNamed, MessageFact, Sent};
 ghost use Rattle.master_model.specs.Causes.{AcknowledgesOwn, EpochCame, Joins, LeftSent, WriterStays, epoch_in, is_noted, left_in, roster_in};
@@ -277,4 +277,14 @@ pub fn a_get_that_meets_no_lock_is_answered()
 pub fn a_put_that_meets_no_lock_is_done()
     ensures put { (s : State) (session table : ℕ) (key value : List ℕ) → MayPutIn s.life session table key (Some value) → (on_command s session (command.Put table key value)).1 ≡ reply.Done }
     ensures del { (s : State) (session table : ℕ) (key : List ℕ) → MayPutIn s.life session table key None → (on_command s session (command.Del table key)).1 ≡ reply.Done }
+{}
+
+/// A recalled page goes once its last change is durable: in no state is there a recalled page of which that is so. So a
+/// page that is recalled when it may go is released in that step, and every other one in the step that makes its last
+/// change durable; its Release is sent then (`what_is_kept_of_a_page_was_sent`). Refused is a recall that waits for the
+/// next acknowledgement, and an acknowledgement that lets one page go and not the others.
+pub fn recalled_pages_go_once_they_may()
+    ensures start { (number boot stores : ℕ) → LifeRests (start number boot stores).0.life }
+    ensures message { (s : State) (m : Message) → Brings m → LifeRests s.life → LifeRests (step s m).0.life }
+    ensures command { (s : State) (session : ℕ) (asked : Command) → LifeRests s.life → LifeRests (on_command s session asked).0.life }
 {}
