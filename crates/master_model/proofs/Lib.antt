@@ -5,6 +5,7 @@ mod Moves
 mod StepMoves
 mod GoesLemmas
 mod LackLemmas
+mod PlaceLemmas
 mod StepGoes
 mod FactLemmas
 mod PageLemmas
@@ -25,3 +26,10 @@ mod BegunLemmas
 mod OnceLemmas
 mod OpenEndLemmas
 mod EndedLemmas
+mod CauseLemmas
+mod EpochLemmas
+mod StageLemmas
+mod KeptLemmas
+mod SaidLemmas
+mod DoneLemmas
+mod RestLemmas

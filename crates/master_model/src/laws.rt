@@ -5,23 +5,27 @@
 //! one step: what holds before it and after it (`Facts`), and how the state goes on (`Goes`). `begun` is the stamp
 //! at which the master's writer began, as the lock manager has it. What a message brings (`Brings`) is what each
 //! message has that the format of messages can spell.
-ghost use Rattle.std.specs.Prelude.{◌≡◌, ℕ, Bool, true, List, Option};
+ghost use Rattle.std.specs.Prelude.{◌≡◌, ◌⊎◌, ℕ, Bool, true, List, [], Option, None, Some};
 ghost use Rattle.std.specs.List.{AllByRecursion};
 ghost use Rattle.std.specs.FinSet as sets;
 ghost use Rattle.log_writer.specs.Log.{resent, unacked};
 ghost use Rattle.tm_base.specs.declared.command.Command.{Command};
 ghost use Rattle.tm_base.specs.declared.command.Command.TheVariants as command;
 ghost use Rattle.tm_base.specs.declared.message.Message.{Message};
+ghost use Rattle.tm_base.specs.declared.message.Note.TheVariants as note;
 ghost use Rattle.tm_base.specs.declared.reply.Reply.TheVariants as reply;
-ghost use Rattle.master_model.specs.State.{State, Work};
+ghost use Rattle.master_model.specs.State.{Life, State, Work};
 ghost use Rattle.master_model.specs.Fates.{has_ended, is_open, is_own};
 ghost use Rattle.master_model.specs.Tags.{PageTag};
 ghost use Rattle.master_model.specs.Reads.{get};
-ghost use Rattle.master_model.specs.Replies.{PathIsHere, QuietOrAsking, Reads, SaysDurableIn, SaysEndIn};
+ghost use Rattle.master_model.specs.Replies.{MayGetIn, MayPutIn, PathIsHere, QuietOrAsking, Reads, SaysDurableIn, SaysEndIn};
 ghost use Rattle.master_model.specs.Step.{on_command, start, step, tick};
-ghost use Rattle.master_model.specs.Facts.{Brings, DurableEnd, EndIsDurable, Facts, GrantIsBegun, JoinsAfter, Lacks, OwnTags, TagsAreBegun, WorkFacts, own_txn};
+ghost use Rattle.master_model.specs.Facts.{Brings, DurableEnd, EndIsDurable, Facts, GrantIsBegun, JoinsAfter, Lacks, LifeRests, OwnTags, TagsAreBegun, WorkFacts, own_txn};
 ghost use Rattle.master_model.specs.Goes.{Goes};
-ghost use Rattle.master_model.specs.Told.{Sent};
+ghost use Rattle.master_model.specs.Told.{IsNamed, MessageFact, Sent};
+ghost use Rattle.master_model.specs.Causes.{AcknowledgesOwn, EpochCame, Joins, LeftSent, WriterStays, epoch_in, is_noted, left_in, roster_in};
+ghost use Rattle.master_model.specs.declared.left.Left.{Left};
+ghost use Rattle.master_model.specs.Stages.{RecoveryGoes, RecoveryIsAsked, StagesAreSaid};
 
 /// What holds in every state holds at the start, where nothing is known yet. It speaks of the start alone: refused is
 /// a fact that wants a master to have joined.
@@ -81,8 +85,9 @@ pub fn what_is_lacked_is_of_the_log()
 
 /// How a message moves the state on: the log grows at its end alone and loses no acknowledgement, so what is durable
 /// stays so; scalar and heard stamps never fall, nor do epochs of pages and the numbers of transactions and requests;
-/// an end that is known stays known, and so does a writer's recovery; a fenced master stays fenced. Refused is a
-/// Roster that lifts the fence, a grant at a lower epoch, and an acknowledgement that takes another one back.
+/// in one epoch a lease goes from held over recalled and given back to none, and what is kept of a page that is being
+/// given back stays; an end that is known stays known, and so does a writer's recovery; a fenced master stays fenced.
+/// Refused is a Roster that lifts the fence, a grant at a lower epoch, and an acknowledgement that takes another one back.
 pub fn a_message_goes()
     ensures { (begun : ℕ) (s : State) (m : Message) → Facts begun s → Brings m → Goes s (step s m).0 }
 {}
@@ -167,4 +172,119 @@ pub fn what_has_ended_is_durable()
 /// is free.
 pub fn an_open_transaction_has_no_durable_end()
     ensures { (begun : ℕ) (w : Work) (number : ℕ) (committed : Bool) → WorkFacts begun w → is_open w number ≡ true → DurableEnd w.log (own_txn w.log number) committed → ⊥ }
+{}
+
+/// A mark in the own log comes only from an acknowledgement: of a group of the own writer, by the log store itself, of
+/// that number. A command makes none. So what a master takes for durable was acknowledged by each log store. Refused
+/// is a master that notes the acknowledgement of another writer's group as its own, and one that takes a store's word
+/// for another store's.
+pub fn marks_come_from_acknowledgements()
+    ensures message { (s : State) (m : Message) (seq store : ℕ) → Brings m → is_noted (step s m).0.life seq store ≡ true → (is_noted s.life seq store ≡ true) ⊎ AcknowledgesOwn (step s m).0.life m seq store }
+    ensures command { (s : State) (session : ℕ) (asked : Command) (seq store : ℕ) → is_noted (on_command s session asked).0.life seq store ≡ true → is_noted s.life seq store ≡ true }
+{}
+
+/// A life begins with the answer to the registering of its own boot, and with nothing else: as the writer that the
+/// answer names, with an empty log and with the answer's stamp as its scalar. From then on it has this writer for ever.
+/// Refused is a master that takes the answer to an earlier boot, and with it the writer of a life that is over, and one
+/// that takes a second answer for a new writer.
+pub fn a_life_begins_as_it_was_registered()
+    ensures begins { (s : State) (m : Message) (l : Life) → s.life ≡ None → (step s m).0.life ≡ Some l → Joins s m l }
+    ensures waits { (s : State) (session : ℕ) (asked : Command) → s.life ≡ None → (on_command s session asked).0.life ≡ None }
+    ensures message { (s : State) (m : Message) → Brings m → WriterStays s.life (step s m).0.life }
+    ensures command { (s : State) (session : ℕ) (asked : Command) → WriterStays s.life (on_command s session asked).0.life }
+{}
+
+/// The epoch that a master has of a page is the one that it had, or that of a grant to its writer which has just come,
+/// or 1 by a fresh page that it was just given. A command changes none. Refused is a master that takes an epoch from a
+/// recall, one that takes another writer's grant, and one that holds a fresh page at epoch 2.
+pub fn epochs_come_with_pages()
+    ensures message { (s : State) (m : Message) (page : ℕ) → Brings m → (epoch_in (step s m).0.life page ≡ epoch_in s.life page) ⊎ EpochCame s.life m page (epoch_in (step s m).0.life page) }
+    ensures command { (s : State) (session : ℕ) (asked : Command) (page : ℕ) → epoch_in (on_command s session asked).0.life page ≡ epoch_in s.life page }
+{}
+
+/// A recovery moves only as its stages say, by what comes of its writer: a sealed log's length, by the log store that
+/// sealed it, asks for the close there; the close says from which store how many groups are read; of the groups that
+/// come the next ones are read, in order, and no other; once all are, the pages are taken over, part after part; and
+/// after the last part as many rows are to be undone as those groups leave. It ends by the word that its writer is
+/// recovered. The command begins it, undoes a row of it, and has the lock manager told only once what was undone is
+/// durable. Refused is a recovery that is closed at a length that no store said, one that stops before the last group of
+/// the close, one that passes over a part of the pages, and one that tells before its last group is durable.
+pub fn recoveries_move_by_what_comes()
+    ensures message { (s : State) (m : Message) → RecoveryGoes m s.life (step s m).0.life }
+    ensures command { (s : State) (session : ℕ) (asked : Command) → RecoveryIsAsked asked s.life (on_command s session asked).0.life }
+{}
+
+/// What a recovery sends says where it is after the step: a Seal is of its writer, a Close has the store and the length
+/// that were sealed, a Fetch goes to the close's store and asks for the group that is awaited, a Takeover lists the
+/// pages of its part and says whether it is the last one, and an Undone is sent once all is undone. Refused is a Close
+/// with another store's length, a Fetch that skips a group, and a Takeover that lists the part before.
+pub fn a_recovery_says_where_it_is()
+    ensures message { (s : State) (m : Message) → StagesAreSaid (step s m).0.life (step s m).1 }
+    ensures command { (s : State) (session : ℕ) (asked : Command) → StagesAreSaid (on_command s session asked).0.life (on_command s session asked).2 }
+    ensures tick { (s : State) → StagesAreSaid s.life (tick s) }
+{}
+
+/// The roster that a master keeps is the last one that came, or there is none. Refused is a master that keeps the
+/// entries of an older roster beside the new ones, and one that drops it once a writer is recovered.
+pub fn the_roster_is_one_that_came()
+    ensures start { (number boot stores : ℕ) → roster_in (start number boot stores).0.life ≡ [] }
+    ensures message { (s : State) (m : Message) → (roster_in (step s m).0.life ≡ roster_in s.life) ⊎ (m.note ≡ note.Roster (roster_in (step s m).0.life)) }
+    ensures command { (s : State) (session : ℕ) (asked : Command) → roster_in (on_command s session asked).0.life ≡ roster_in s.life }
+{}
+
+/// What is kept of a page that is being given back was kept before the step, or its Release was sent in it with just
+/// this body. A command gives no page back. So each body that is kept, and sent again, is one that was sent. Refused
+/// is a master that keeps another epoch than it tells, and one that keeps what it tells before it is sent.
+pub fn what_is_kept_of_a_page_was_sent()
+    ensures message { (s : State) (m : Message) (page : ℕ) (body : Left) → Brings m → left_in (step s m).0.life page ≡ Some body → (left_in s.life page ≡ Some body) ⊎ LeftSent (step s m).0.life (step s m).1 page body }
+    ensures command { (s : State) (session : ℕ) (asked : Command) (page : ℕ) (body : Left) → left_in (on_command s session asked).0.life page ≡ Some body → left_in s.life page ≡ Some body }
+{}
+
+/// A life is of this master, and deals out the pages to as many page stores, in every state. Refused is a master that
+/// joins as the number of its boot.
+pub fn a_life_is_of_its_master()
+    ensures start { (number boot stores : ℕ) → IsNamed (start number boot stores).0 }
+    ensures message { (begun : ℕ) (s : State) (m : Message) → Facts begun s → Brings m → IsNamed s → IsNamed (step s m).0 }
+    ensures command { (begun : ℕ) (s : State) (session : ℕ) (asked : Command) → Facts begun s → IsNamed s → IsNamed (on_command s session asked).0 }
+{}
+
+/// What is sent says what stays so: an Append's group stands in the log at its number; a Stable's number is durable; a
+/// RequestFresh has a number up to the one after the last that was answered; a page that was released is over in that
+/// epoch, or is being given back with just the body that was told; a transaction of which it was told that it has ended
+/// has a durable end. Refused is a Fate that says ended of a transaction whose end is logged and not durable.
+pub fn sent_messages_say_what_stays()
+    ensures { (begun : ℕ) (s : State) (messages : List Message) → Facts begun s → IsNamed s → Sent s messages → AllByRecursion (MessageFact s) messages }
+{}
+
+/// And it stays so, however the state goes on. It speaks of the relation alone: refused is one by which a page that was
+/// given back may be recalled once more in its epoch, and one by which what is kept of it may change. A step that does
+/// so is refused by `a_message_goes`.
+pub fn what_messages_say_stays()
+    ensures { (s t : State) (m : Message) → Goes s t → MessageFact s m → MessageFact t m }
+{}
+
+/// A get is answered a value where a session's transaction hasn't begun to end, the key's path is held, not recalled and
+/// in the pool, its row is the own transaction's or one's that is known to have ended, and the leaf has fewer than 4,096
+/// shared locks. Refused is a get that asks for a fate which is known, and one that refuses the last shared lock.
+pub fn a_get_that_meets_no_lock_is_answered()
+    ensures { (s : State) (session table : ℕ) (key : List ℕ) → MayGetIn s.life session table key → (value : Option (List ℕ)) × ((on_command s session (command.Get table key)).1 ≡ reply.Value value) }
+{}
+
+/// A put or a del that is so placed is done where the shared locks on its key bind nobody, nor those of other writers on
+/// a leaf that splits; where the pages that split have their fresh pages in stock and in the pool, and a root that
+/// splits is below the greatest level; and where group numbers and stamps last. Refused is a put that is locked by a
+/// reader that has ended, one that asks for one more fresh page than it wants, and one that stops one group too early.
+pub fn a_put_that_meets_no_lock_is_done()
+    ensures put { (s : State) (session table : ℕ) (key value : List ℕ) → MayPutIn s.life session table key (Some value) → (on_command s session (command.Put table key value)).1 ≡ reply.Done }
+    ensures del { (s : State) (session table : ℕ) (key : List ℕ) → MayPutIn s.life session table key None → (on_command s session (command.Del table key)).1 ≡ reply.Done }
+{}
+
+/// A recalled page goes once its last change is durable: in no state is there a recalled page of which that is so. So a
+/// page that is recalled when it may go is released in that step, and every other one in the step that makes its last
+/// change durable; its Release is sent then (`what_is_kept_of_a_page_was_sent`). Refused is a recall that waits for the
+/// next acknowledgement, and an acknowledgement that lets one page go and not the others.
+pub fn recalled_pages_go_once_they_may()
+    ensures start { (number boot stores : ℕ) → LifeRests (start number boot stores).0.life }
+    ensures message { (s : State) (m : Message) → Brings m → LifeRests s.life → LifeRests (step s m).0.life }
+    ensures command { (s : State) (session : ℕ) (asked : Command) → LifeRests s.life → LifeRests (on_command s session asked).0.life }
 {}
