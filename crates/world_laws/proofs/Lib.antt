@@ -1,0 +1,11 @@
+mod FrameLemmas
+mod MessageLemmas
+mod StoreLemmas
+mod StoreMessages
+mod StoreSteps
+mod BeginLemmas
+mod LockLemmas
+mod MarkLemmas
+mod LockEnds
+mod LockMoves
+mod LockSteps

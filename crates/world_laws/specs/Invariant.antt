@@ -1,0 +1,61 @@
+-- The first part of the invariant of the world: messages, logs and disks.
+use Rattle.tm_base.specs.declared.message.Message.{Message}
+use Rattle.tm_base.specs.declared.message.Node.TheVariants.{LogStore, LockManager}
+use Rattle.std.specs.Prelude.{◌≡◌, ℕ}
+use Rattle.world_model.specs.World.{World, stopped}
+use Rattle.tm_base.specs.declared.step.Step.{Step}
+use Rattle.tm_base.specs.declared.step.Step.TheVariants as step
+use Rattle.world_model.specs.Nodes.{delivers_to}
+use Rattle.world_model.specs.Step.{world_step}
+use Rattle.world_laws.specs.Beside.{Beside, nothing}
+use Rattle.world_laws.specs.LogStores.{StoresHold}
+use Rattle.world_laws.specs.Lives.{LivesHold}
+use Rattle.world_laws.specs.Messages.{AllSay, Says, view}
+
+pub record LogsHold (w : World) (b : Beside) : Type 0 where
+  pub stores : StoresHold w b
+  pub lives : LivesHold w b
+  pub sent : AllSay (view w b) w.sent
+
+-- A message that says what is so, delivered to a log store, keeps all of it: no life, boot number or writer changes by it.
+abbrev pub StoreDeliveryHolds : Type 0
+StoreDeliveryHolds =
+    (w : World) (b : Beside) (number : ℕ) (m : Message)
+    → Says (view w b) m
+    → LogsHold w b
+    → LogsHold (delivers_to w m (LogStore number)).world b
+
+-- What else may become of a log store: it ticks, it stops, it starts again from its disk, and its disk is to fail.
+abbrev pub IsOfStore : ℕ → Step → Type 0
+IsOfStore number (step.Tick (LogStore n)) = n ≡ number
+IsOfStore number (step.Stop (LogStore n) mode) = n ≡ number
+IsOfStore number (step.Start (LogStore n)) = n ≡ number
+IsOfStore number (step.Fail (LogStore n) call mode) = n ≡ number
+IsOfStore number other = ⊥
+
+-- Each keeps all of it.
+abbrev pub StoreStepHolds : Type 0
+StoreStepHolds = (w : World) (b : Beside) (number : ℕ) (s : Step) → IsOfStore number s → LogsHold w b → LogsHold (world_step w s).world b
+
+-- ---- the lock manager
+
+-- A message that says what is so, delivered to the lock manager, keeps all of it: a close gives a log its end, where a log
+-- store is sealed, and at least what the writer's master knew to be durable.
+abbrev pub LockDeliveryHolds : Type 0
+LockDeliveryHolds = (w : World) (b : Beside) (m : Message) → Says (view w b) m → LogsHold w b → LogsHold (delivers_to w m LockManager).world b
+
+abbrev pub IsOfLocks : Step → Type 0
+IsOfLocks (step.Tick LockManager) = Unit {0}
+IsOfLocks (step.Stop LockManager mode) = Unit {0}
+IsOfLocks (step.Start LockManager) = Unit {0}
+IsOfLocks (step.Fail LockManager call mode) = Unit {0}
+IsOfLocks other = ⊥
+
+abbrev pub LockStepHolds : Type 0
+LockStepHolds = (w : World) (b : Beside) (s : Step) → IsOfLocks s → LogsHold w b → LogsHold (world_step w s).world b
+
+-- ---- the beginning
+
+-- It holds before any node has started.
+abbrev pub StoppedHolds : Type 0
+StoppedHolds = (masters page_stores replicas : ℕ) → LogsHold (stopped masters page_stores replicas) nothing

@@ -1,0 +1,8 @@
+//! The invariant of the world, put together from what holds of each node.
+#![tactic(auto)]
+
+pub mod begin;
+pub mod frame;
+pub mod locks;
+pub mod messages;
+pub mod stores;
