@@ -3,9 +3,10 @@ mod MessageLemmas
 mod StoreLemmas
 mod StoreMessages
 mod StoreSteps
-mod BeginLemmas
 mod LockLemmas
 mod MarkLemmas
 mod LockEnds
 mod LockMoves
 mod LockSteps
+mod ApartLemmas
+mod BeginLemmas

@@ -7,7 +7,8 @@ use Rattle.tm_data.specs.declared.log.Group.{Group}
 use Rattle.tm_base.specs.declared.message.Message.{Message}
 use Rattle.lock_model.specs.declared.writer.WriterEntry.{WriterEntry}
 use Rattle.lock_model.specs.State as locks
-use Rattle.lock_model.specs.State.{at}
+use Rattle.lock_model.specs.State.{at, page_in}
+use Rattle.lease_desk.specs.Desk.{lease_of}
 use Rattle.lock_model.specs.Goes as lock_goes
 use Rattle.lock_model.specs.Goes.{WriterGoes}
 use Rattle.lock_model.specs.Runs.{LogEnd, after, ended_at}
@@ -69,8 +70,11 @@ end_stays : (w : World) (b : Beside) (x : locks.State) (writer : ℕ) → EndMov
 end_stays w b x writer (inl same) e is = same ∙ is
 end_stays w b x writer (inr g) e is = absurd (cc (sym g.was ∙ is))
 
-at_itself : (n : ℕ) → n ≤ n
+pub at_itself : (n : ℕ) → n ≤ n
 at_itself n = omega arith
+
+pub at_most : (a b c : ℕ) → a ≤ b → b ≤ c → a ≤ c
+at_most a b c h k = omega (arith, h, k)
 
 most_goes : (w : World) (b : Beside) (x : locks.State) (writer : ℕ) → EndMove w b x writer → hard w b writer ≤ up_to (ended_at (at x.writers writer)) (durable_by (fin.get b.lives writer))
 most_goes w b x writer (inl same) =
@@ -130,8 +134,8 @@ recovery_moves w b x ends (Some r) h =
     stage_moves (log_kept w) (end_of w r.writer) (ended_at (at x.writers r.writer)) (end_stays w b x r.writer (ends r.writer)) r.writer r.stage h
 
 life_moves : (w : World) (b : Beside) (x : locks.State) (p : Past) → LockMove w b x p → (writer : ℕ) (l : Life)
-    → LifeFact (locks_kept w).writers (log_kept w) (end_of w) (log_by b writer) writer l
-    → LifeFact x.writers (log_kept w) (λ v. ended_at (at x.writers v)) (log_by b writer) writer l
+    → LifeFact (locks_kept w) (log_kept w) (end_of w) (log_by b writer) writer l
+    → LifeFact x (log_kept w) (λ v. ended_at (at x.writers v)) (log_by b writer) writer l
 life_moves w b x p move writer l f =
     let later = move.goes.writers writer f.entry f.known in
     record {
@@ -141,13 +145,30 @@ life_moves w b x p move writer l f =
       master = later.2.master ∙ f.master;
       facts = subst (λ (k : ℕ). WorkFacts k l.work) (sym (ap (λ s. s.0) later.2.start)) f.facts;
       log_kept = f.log_kept;
+      epochs = λ page. at_most (lease_of l.work.leases page).epoch (page_in (locks_kept w) page).epoch (page_in x page).epoch (f.epochs page) (move.goes.pages page).epoch;
       recovery = recovery_moves w b x move.ends l.recovery f.recovery;
     }
 
-joined_moves : (w : World) (b : Beside) (x : locks.State) (p : Past) → LockMove w b x p → (s : State) (o : Option Life)
+-- A writer that the lock manager doesn't know has no life.
+unborn : (w : World) (b : Beside) (writer : ℕ) → LivesHold w b → at (locks_kept w).writers writer ≡ None → fin.get b.lives writer ≡ None
+unborn w b writer h is = by (fin.get b.lives writer) refl
+  where
+    by : (o : Option Life) → fin.get b.lives writer ≡ o → o ≡ None
+    by None there = refl
+    by (Some l) there = absurd (cc (sym is ∙ (h.lives writer l there).known))
+
+joined_moves : (w : World) (b : Beside) (x : locks.State) (p : Past) → LivesHold w b → LockMove w b x p → (s : State) (o : Option Life)
     → JoinedAs (locks_kept w).writers b s o → JoinedAs x.writers b s o
-joined_moves w b x p move s None h = h
-joined_moves w b x p move s (Some l) h =
+joined_moves w b x p all move s None h = λ writer e is master boot. by writer e is master boot (at (locks_kept w).writers writer) refl
+  where
+    by : (writer : ℕ) (e : WriterEntry) → at x.writers writer ≡ Some e → e.master ≡ s.number → e.boot ≡ s.boot
+        → (o : Option WriterEntry) → at (locks_kept w).writers writer ≡ o → fin.get b.lives writer ≡ None
+    by writer e is master boot None was = unborn w b writer all was
+    by writer e is master boot (Some old) was =
+        let later = move.goes.writers writer old was in
+        let one : later.0 ≡ e = cc (later.1, is) in
+        h writer old was (sym later.2.master ∙ (ap (λ (f : WriterEntry). f.master) one ∙ master)) (sym later.2.boot ∙ (ap (λ (f : WriterEntry). f.boot) one ∙ boot))
+joined_moves w b x p all move s (Some l) h =
     let f : JoinedFact (locks_kept w).writers b s l = h in
     let later = move.goes.writers (writer_of l.work) f.entry f.known in
     record { last = f.last; number = f.number; entry = later.0; known = later.1; boot = later.2.boot ∙ f.boot }
@@ -178,7 +199,7 @@ lives_move w b lock d p messages move runs h = record {
   boots = boots_move w b (kept d) p move h.boots;
   lives = λ writer l is. life_moves w b (kept d) p move writer l (h.lives writer l is);
   none = h.none;
-  masters = λ number s is. let f = h.masters number s is in record { named = f.named; boot = f.boot; joined = joined_moves w b (kept d) p move s s.life f.joined };
+  masters = λ number s is. let f = h.masters number s is in record { named = f.named; boot = f.boot; first = f.first; joined = joined_moves w b (kept d) p h move s s.life f.joined };
   ends = λ writer end is. end_fact w b (kept d) writer (h.ends writer) (move.ends writer) end is;
   past = move.past;
 }

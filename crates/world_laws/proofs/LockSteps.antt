@@ -28,7 +28,7 @@ use Rattle.world_model.specs.Disk.{Armed, Disk, Worked, appended, appended_as, a
 use Rattle.world_model.specs.Past.{managed, managed_by}
 use Rattle.world_model.specs.World.{World, Effect, Past, or_zero}
 use Rattle.world_model.specs.Nodes.{lock_keeps, lock_takes, lock_ticks, message_size}
-use Rattle.world_model.specs.Step.{if_up, is_any, lock_after, lock_opens, runs, starts}
+use Rattle.world_model.specs.Step.{if_up, lock_after, lock_opens, runs, starts}
 use Rattle.world_laws.specs.Beside.{Beside, durable_by, up_to}
 use Rattle.world_laws.specs.Invariant.{LockDeliveryHolds, LockStepHolds, LogsHold}
 use Rattle.world_laws.specs.Kept.{IsOneOfThree, locks_kept, log_kept}
@@ -276,22 +276,21 @@ up : LockLaws → (w : World) (b : Beside) (c : Bool) (e : Effect) → LogsHold 
 up law w b true e h k = k
 up law w b false e h k = stays law w b w.lock w.lock_disk refl h.lives.lock h
 
-opens : LockLaws → (w : World) (b : Beside) (k : Worked Message) → k.disk.records ≡ w.lock_disk.records → (o : Option State) → w.lock ≡ o → is_any o ≡ false → LogsHold w b → LogsHold (lock_opens w k).world b
-opens law w b k same (Some s) was not h = absurd (cc not)
-opens law w b k same None was not h = by k.done
+pub lock_opened : LockLaws → (w : World) (b : Beside) (k : Worked Message) → k.disk.records ≡ w.lock_disk.records → LogsHold w b → LogsHold (lock_opens w k).world b
+lock_opened law w b k same h = by k.done
   where
     by : (c : Bool) → LogsHold (lock_opens w (record { disk = k.disk; done = c })).world b
     by true = stays law w b (Some (lock_after start k.disk.records)) k.disk same (started_after start k.disk.records) h
-    by false = stays law w b w.lock k.disk same (subst (RunsAs (kept k.disk)) (sym was) tt) h
+    by false = stays law w b w.lock k.disk same (subst (λ (ms : List Message). RunsAs (after start ms) w.lock) (sym same) h.lives.lock) h
 
-starts_up : LockLaws → (w : World) (b : Beside) → LogsHold w b → (c : Bool) → runs w LockManager ≡ c → LogsHold (starts w LockManager c).world b
-starts_up law w b h true is = stays law w b w.lock w.lock_disk refl h.lives.lock h
-starts_up law w b h false is = opens law w b (opened message_size w.lock_disk) (opened_same w.lock_disk) w.lock refl is h
+starts_up : LockLaws → (w : World) (b : Beside) → LogsHold w b → (c : Bool) → LogsHold (starts w LockManager c).world b
+starts_up law w b h true = stays law w b w.lock w.lock_disk refl h.lives.lock h
+starts_up law w b h false = lock_opened law w b (opened message_size w.lock_disk) (opened_same w.lock_disk) h
 
 pub lock_step_holds : LockLaws → LockStepHolds
 lock_step_holds law w b (step_kind.Tick LockManager) of h = ticks law w b h w.lock
 lock_step_holds law w b (step_kind.Stop LockManager mode) of h = up law w b (runs w LockManager) _ h (stays law w b None w.lock_disk refl tt h)
-lock_step_holds law w b (step_kind.Start LockManager) of h = starts_up law w b h (runs w LockManager) refl
+lock_step_holds law w b (step_kind.Start LockManager) of h = starts_up law w b h (runs w LockManager)
 lock_step_holds law w b (step_kind.Fail LockManager call mode) of h =
     up law w b (runs w LockManager) _ h (stays law w b w.lock (arm w.lock_disk call mode) refl h.lives.lock h)
 lock_step_holds law w b s of h = absurd of

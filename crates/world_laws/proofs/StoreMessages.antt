@@ -118,6 +118,7 @@ lives_stay w b stores disks sent goes h = record {
         master = f.master;
         facts = f.facts;
         log_kept = f.log_kept;
+        epochs = f.epochs;
         recovery = recovery_goes (log_kept w) (log_kept (record w { log = stores; log_disk = disks; sent = sent })) goes (end_of w) l.recovery f.recovery;
       };
   none = h.none;

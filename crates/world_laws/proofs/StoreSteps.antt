@@ -74,7 +74,7 @@ opened_same d = by (nat_le d.size 1)
     by true = made_same d (failing 5 d.armed)
     by false = read_same d (failing (5 + reads d.size) d.armed)
 
-opens : SentLaws → (w : World) (b : Beside) (number : ℕ) (k : Worked Message) → k.disk.records ≡ (log_disk_of w number).records → LogsHold w b → LogsHold (log_opens w number k).world b
+pub opens : SentLaws → (w : World) (b : Beside) (number : ℕ) (k : Worked Message) → k.disk.records ≡ (log_disk_of w number).records → LogsHold w b → LogsHold (log_opens w number k).world b
 opens law w b number k same h = by k.done
   where
     by : (c : Bool) → LogsHold (log_opens w number (record { disk = k.disk; done = c })).world b

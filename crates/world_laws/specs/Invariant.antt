@@ -1,12 +1,13 @@
 -- The first part of the invariant of the world: messages, logs and disks.
 use Rattle.tm_base.specs.declared.message.Message.{Message}
-use Rattle.tm_base.specs.declared.message.Node.TheVariants.{LogStore, LockManager}
+use Rattle.tm_base.specs.declared.message.Node.{Node}
+use Rattle.tm_base.specs.declared.message.Node.TheVariants.{LogStore, PageStore, LockManager, Replica}
 use Rattle.std.specs.Prelude.{◌≡◌, ℕ}
 use Rattle.world_model.specs.World.{World, stopped}
 use Rattle.tm_base.specs.declared.step.Step.{Step}
 use Rattle.tm_base.specs.declared.step.Step.TheVariants as step
 use Rattle.world_model.specs.Nodes.{delivers_to}
-use Rattle.world_model.specs.Step.{world_step}
+use Rattle.world_model.specs.Step.{begin, world_step}
 use Rattle.world_laws.specs.Beside.{Beside, nothing}
 use Rattle.world_laws.specs.LogStores.{StoresHold}
 use Rattle.world_laws.specs.Lives.{LivesHold}
@@ -54,7 +55,42 @@ IsOfLocks other = ⊥
 abbrev pub LockStepHolds : Type 0
 LockStepHolds = (w : World) (b : Beside) (s : Step) → IsOfLocks s → LogsHold w b → LogsHold (world_step w s).world b
 
+-- ---- page stores, replicas, and masters that start or stop
+
+-- The world's steps that touch no log and no lease: of page stores and replicas, of starts and stops of masters, and those
+-- that change nothing.
+abbrev pub IsApartNode : Node → Type 0
+IsApartNode (PageStore number) = Unit {0}
+IsApartNode (Replica number) = Unit {0}
+IsApartNode other = ⊥
+
+abbrev pub MayStop : Node → Type 0
+MayStop LockManager = ⊥
+MayStop (LogStore number) = ⊥
+MayStop other = Unit {0}
+
+abbrev pub IsApart : Step → Type 0
+IsApart (step.Do number session asked) = ⊥
+IsApart (step.Deliver number) = ⊥
+IsApart (step.Tick node) = IsApartNode node
+IsApart (step.Stop node mode) = MayStop node
+IsApart (step.Start node) = MayStop node
+IsApart (step.Fail node call mode) = MayStop node
+IsApart other = Unit {0}
+
+-- They keep all of it: what a page store or a replica sends says nothing here, and a master that starts registers the boot
+-- number that was given out to it.
+abbrev pub ApartDeliveryHolds : Type 0
+ApartDeliveryHolds = (w : World) (b : Beside) (m : Message) (node : Node) → IsApartNode node → LogsHold w b → LogsHold (delivers_to w m node).world b
+
+abbrev pub ApartStepHolds : Type 0
+ApartStepHolds = (w : World) (b : Beside) (s : Step) → IsApart s → LogsHold w b → LogsHold (world_step w s).world b
+
 -- ---- the beginning
+
+-- It holds when all nodes have started.
+abbrev pub BeginHolds : Type 0
+BeginHolds = (masters page_stores replicas : ℕ) → LogsHold (begin masters page_stores replicas) nothing
 
 -- It holds before any node has started.
 abbrev pub StoppedHolds : Type 0

@@ -9,7 +9,8 @@ use Rattle.tm_base.specs.declared.message.Message.{Message}
 use Rattle.tm_base.specs.declared.message.Node.TheVariants.{LockManager}
 use Rattle.world_model.specs.Nodes.{delivers_to}
 use Rattle.lock_model.specs.State as locks
-use Rattle.lock_model.specs.State.{at}
+use Rattle.lock_model.specs.State.{at, page_in}
+use Rattle.lease_desk.specs.Desk.{lease_of}
 use Rattle.lock_model.specs.Runs.{LogEnd}
 use Rattle.store_model.specs.LogState.{LogStoreState, log_of}
 use Rattle.store_model.specs.LogFacts.{IsSealedWith}
@@ -56,13 +57,15 @@ KeepsOf l groups = groups_of l.work.log ≡ groups
 
 -- A life that joined as a writer: the lock manager knows the writer, which is this master's, and the life has the facts of
 -- one that began at the writer's start. This is said of its last state, whether its master runs or not.
-pub record LifeFact (writers : List (ℕ × WriterEntry)) (stores : ℕ → LogStoreState) (ends : ℕ → Option LogEnd) (log : List Group) (writer : ℕ) (l : Life) : Type 0 where
+pub record LifeFact (of_locks : locks.State) (stores : ℕ → LogStoreState) (ends : ℕ → Option LogEnd) (log : List Group) (writer : ℕ) (l : Life) : Type 0 where
   pub named : writer_of l.work ≡ writer
   pub entry : WriterEntry
-  pub known : at writers writer ≡ Some entry
+  pub known : at of_locks.writers writer ≡ Some entry
   pub master : entry.master ≡ l.work.number
   pub facts : WorkFacts entry.start.0 l.work
   pub log_kept : KeepsOf l log
+  -- it has had no lease of a page that the lock manager hasn't given
+  pub epochs : (page : ℕ) → (lease_of l.work.leases page).epoch ≤ (page_in of_locks page).epoch
   pub recovery : RecoveryFact stores ends l.recovery
 
 -- The life of a master that runs is the last state of its writer, which the lock manager numbered for this boot.
@@ -73,8 +76,9 @@ pub record JoinedFact (writers : List (ℕ × WriterEntry)) (b : Beside) (s : St
   pub known : at writers (writer_of l.work) ≡ Some entry
   pub boot : entry.boot ≡ s.boot
 
+-- Of one that hasn't joined yet: no life joined as a writer that was numbered for this boot.
 abbrev pub JoinedAs : List (ℕ × WriterEntry) → Beside → State → Option Life → Type 0
-JoinedAs writers b s None = Unit {0}
+JoinedAs writers b s None = (writer : ℕ) (e : WriterEntry) → at writers writer ≡ Some e → e.master ≡ s.number → e.boot ≡ s.boot → fin.get b.lives writer ≡ None
 JoinedAs writers b s (Some l) = JoinedFact writers b s l
 
 -- A master that runs has its last boot number. With the writers' numbering, one for each master and boot, no two masters
@@ -82,6 +86,7 @@ JoinedAs writers b s (Some l) = JoinedFact writers b s l
 pub record MasterFact (writers : List (ℕ × WriterEntry)) (b : Beside) (boots number : ℕ) (s : State) : Type 0 where
   pub named : s.number ≡ number
   pub boot : s.boot ≡ boots
+  pub first : 1 ≤ s.boot
   pub joined : JoinedAs writers b s s.life
 
 -- ---- logs that end
@@ -97,7 +102,7 @@ pub record EndFact (reached : ℕ) (end : LogEnd) : Type 0 where
 pub record LivesHold (w : World) (b : Beside) : Type 0 where
   pub lock : RunsAs (locks_kept w) w.lock
   pub boots : BootFacts (locks_kept w).writers (λ number. or_zero (fin.get w.boots number))
-  pub lives : (writer : ℕ) (l : Life) → fin.get b.lives writer ≡ Some l → LifeFact (locks_kept w).writers (log_kept w) (end_of w) (log_by b writer) writer l
+  pub lives : (writer : ℕ) (l : Life) → fin.get b.lives writer ≡ Some l → LifeFact (locks_kept w) (log_kept w) (end_of w) (log_by b writer) writer l
   -- without a life nothing was logged
   pub none : (writer : ℕ) → fin.get b.lives writer ≡ None → log_by b writer ≡ []
   pub masters : (number : ℕ) (s : State) → fin.get w.master number ≡ Some s → MasterFact (locks_kept w).writers b (or_zero (fin.get w.boots number)) number s

@@ -1,6 +1,7 @@
 //! The invariant of the world, put together from what holds of each node.
 #![tactic(auto)]
 
+pub mod apart;
 pub mod begin;
 pub mod frame;
 pub mod locks;
