@@ -1,3 +1,3 @@
 mod PrefixLemmas
-mod OrderLemmas
+pub mod OrderLemmas
 mod ResendLemmas

@@ -6,8 +6,11 @@ use Rattle.std.specs.FinSet as sets
 use Rattle.tm_data.specs.declared.image.Image.{Image}
 use Rattle.tm_data.specs.declared.transaction.Page.{Page}
 use Rattle.tm_data.specs.declared.transaction.Txn.{Txn}
+use Rattle.tm_data.specs.declared.transaction.Writer.{Writer}
 use Rattle.tm_base.specs.declared.command.Command.{Command}
 use Rattle.tm_base.specs.declared.message.Message.{Message}
+use Rattle.tm_base.specs.declared.message.Node.{Node}
+use Rattle.tm_base.specs.declared.message.Node.TheVariants.{LogStore}
 use Rattle.tm_base.specs.declared.message.Note.{Note}
 use Rattle.tm_base.specs.declared.message.Note.TheVariants as note
 use Rattle.tm_base.specs.declared.message.Tag.{Tag}
@@ -22,16 +25,20 @@ use Rattle.master_model.specs.Leases.{binding, with_images}
 use Rattle.master_model.specs.Step as does
 use Rattle.master_model.specs.Step.{step, start, on_command}
 use Rattle.master_model.specs.Facts.{Brings, Facts, GrantIsBegun, GrantsBegun, IsBegun, LifeFacts, OwnTags, SessionFacts, TagsAreBegun, WorkFacts}
-use Rattle.master_model.proofs.Moves.{ClosedFor, with_ack_of}
+use Rattle.master_model.proofs.Moves.{Cause, Granted, ClosedFor, with_ack_of}
 use Rattle.master_model.proofs.OpenLemmas.{unended_open}
 use Rattle.master_model.proofs.SessionLemmas.{session_facts}
-use Rattle.master_model.proofs.StepMoves.{Grants, command_moves, note_moves_for}
+use Rattle.master_model.proofs.StepMoves.{Allows, AllowsAck, AllowsFresh, command_moves, note_moves_for}
 use Rattle.master_model.proofs.TagLemmas.{unended_own, without_passes}
 use Rattle.master_model.proofs.TagSetLemmas.{AllTags, all_inserted, all_moved, all_none, all_with, left_passes}
 
+abbrev AreBegun : Work → List Tag → Type 0
+AreBegun w tags = AllByRecursion (λ (t : Tag). IsBegun w t.txn) tags
+
 -- What a grant brings.
-abbrev Begun : Work → List Tag → Type 0
-Begun w tags = AllByRecursion (λ (t : Tag). IsBegun w t.txn) tags
+abbrev Begun : Work → Cause → Type 0
+Begun w (Granted page epoch stamp tags vector) = AreBegun w tags
+Begun w other = Unit {0}
 
 abbrev Known : Work → Type 0
 Known w = SessionFacts w.log w.begun w.sessions × TagsAreBegun w
@@ -39,11 +46,11 @@ Known w = SessionFacts w.log w.begun w.sessions × TagsAreBegun w
 abbrev BegunMoves : Work → Work → Type 0
 BegunMoves a b = Known a → Known b
 
-binding_begun : (w : Work) (ts : List Tag) → Begun w ts → Begun w (binding w ts)
+binding_begun : (w : Work) (ts : List Tag) → AreBegun w ts → AreBegun w (binding w ts)
 binding_begun w [] h = tt
 binding_begun w (t ∷ ts) h = by (is_ended w t.txn) (binding_begun w ts h.1)
   where
-    by : (b : Bool) → Begun w (binding w ts) → Begun w (cond (not b) (t ∷ binding w ts) (binding w ts))
+    by : (b : Bool) → AreBegun w (binding w ts) → AreBegun w (cond (not b) (t ∷ binding w ts) (binding w ts))
     by true rest = rest
     by false rest = (h.0, rest)
 
@@ -84,9 +91,9 @@ begun_moves = record {
   both = λ a b c h k x. k (h x);
   hears_stamp = λ w stamp is h. h;
   hears_vector = λ w vector is h. h;
-  acks = λ w store seq is h. (session_facts.acks w store seq is h.0, h.1);
-  acks_more = λ w store seq is h. (
-    session_facts.acks_more w store seq is h.0,
+  acks = λ w store seq is came h. (session_facts.acks w store seq is tt h.0, h.1);
+  acks_more = λ w store seq is came h. (
+    session_facts.acks_more w store seq is tt h.0,
     λ t at. h.1 t (without_passes w.tags (ends_between (with_ack_of w store seq).log.groups (durable w) (durable (with_ack_of w store seq))) t at).0,
   );
   group = λ w records none room h. (session_facts.group w records none room h.0, h.1);
@@ -96,7 +103,7 @@ begun_moves = record {
     all_with (λ (t : PageTag). IsBegun w t.txn) w.tags page.0 (binding w tags) h.1 (binding_begun w tags granted),
   );
   image = λ w image held same h. (session_facts.image w image held same h.0, image_begun w _ h.1);
-  fresh_page = λ w page is h. h;
+  fresh_page = λ w page is came h. h;
   fresh_none = λ w h. h;
   recall = λ w page epoch h. h;
   give_back = λ w page is h. (h.0, λ t at. h.1 t (left_passes w.tags (λ x. not (is_on page x)) t at).0);
@@ -118,9 +125,19 @@ begun_moves = record {
 
 -- ---- a master
 
-grants_are : (w : Work) (n : Note) → GrantsBegun w n → Grants Begun w n
-grants_are w (note.Grant writer page epoch of tags vector) h = h
-grants_are w other h = tt
+acks_are : (w : Work) (writer : Writer) (seq : ℕ) (from : Node) → AllowsAck Begun w writer seq from
+acks_are w writer seq (LogStore store) = λ is. tt
+acks_are w writer seq other = tt
+
+fresh_are : (w : Work) (writer : Writer) (page : Option Page) → AllowsFresh Begun w writer page
+fresh_are w writer None = tt
+fresh_are w writer (Some page) = λ is. tt
+
+grants_are : (w : Work) (from : Node) (n : Note) → GrantsBegun w n → Allows Begun w from n
+grants_are w from (note.Ack writer seq) h = acks_are w writer seq from
+grants_are w from (note.Grant writer page epoch of tags vector) h = λ is. h
+grants_are w from (note.FreshIs writer nth page) h = fresh_are w writer page
+grants_are w from other h = tt
 
 joined_begun : (s : State) (stamp : ℕ) (n : Note) → OwnTags s.life → OwnTags (does.joins s stamp n).life
 joined_begun s stamp (note.Registered boot writer) h = by (nat_eq boot s.boot)
@@ -140,7 +157,7 @@ message_begun begun s m f h brings grant = by s.life f h grant
     in_life l true f k grant = h
     in_life l false f k grant =
         let heard : Life = does.heard l m.stamp.0 in
-        (note_moves_for begun_moves heard m.from m.stamp.0 m.note brings.0 (grants_are heard.work m.note grant) (f.of_sessions, k)).1
+        (note_moves_for begun_moves heard m.from m.stamp.0 m.note brings.0 (grants_are heard.work m.from m.note grant) (f.of_sessions, k)).1
 
     by : (o : Option Life) → LifeFacts begun o → OwnTags o → GrantIsBegun o m.note → OwnTags (does.step_by s m o).0.life
     by None f k grant = joined_begun s m.stamp.0 m.note h

@@ -167,14 +167,14 @@ front_moves start = record {
   both = λ a b c h k x. k (h x);
   hears_stamp = λ w stamp fits. front_scalar start w.log w.clock stamp fits;
   hears_vector = λ w vector brought. front_vector start w.log w.clock vector brought;
-  acks = λ w store seq is. front_acked start w.log w.clock store seq;
-  acks_more = λ w store seq is. front_acked start w.log w.clock store seq;
+  acks = λ w store seq is came. front_acked start w.log w.clock store seq;
+  acks_more = λ w store seq is came. front_acked start w.log w.clock store seq;
   group = λ w records none room. front_group start w records room;
   change = λ w r stamp page is h. h;
   grant = λ w page epoch stamp tags vector new brought fits granted h.
       front_vector start w.log (clock.heard_scalar w.clock stamp.0) vector brought (front_scalar start w.log w.clock stamp.0 fits h);
   image = λ w image held same. image_front start w _;
-  fresh_page = λ w page is h. h;
+  fresh_page = λ w page is came h. h;
   fresh_none = λ w h. h;
   recall = λ w page epoch h. h;
   give_back = λ w page is h. h;

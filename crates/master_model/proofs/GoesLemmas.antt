@@ -159,13 +159,13 @@ log_moves = record {
   both = λ a b c. log_both a.log b.log c.log;
   hears_stamp = λ w stamp h. log_stays w.log;
   hears_vector = λ w vector h. log_stays w.log;
-  acks = λ w store seq h. log_acked w.log store seq;
-  acks_more = λ w store seq h. log_acked w.log store seq;
+  acks = λ w store seq h came. log_acked w.log store seq;
+  acks_more = λ w store seq h came. log_acked w.log store seq;
   group = λ w records none room. log_appended w.log _;
   change = λ w r stamp page is. log_stays w.log;
   grant = λ w page epoch stamp tags vector new brought fits granted. log_stays w.log;
   image = λ w image held same. image_log w _;
-  fresh_page = λ w page is. log_stays w.log;
+  fresh_page = λ w page is came. log_stays w.log;
   fresh_none = λ w. log_stays w.log;
   recall = λ w page epoch. log_stays w.log;
   give_back = λ w page is. log_stays w.log;
@@ -222,15 +222,15 @@ clock_moves = record {
   both = λ a b c. clock_moves_both a.clock b.clock c.clock;
   hears_stamp = λ w stamp h. stamp_heard w.clock stamp;
   hears_vector = λ w vector h. vector_heard w.clock vector h.0;
-  acks = λ w store seq h. clock_still w.clock;
-  acks_more = λ w store seq h. clock_still w.clock;
+  acks = λ w store seq h came. clock_still w.clock;
+  acks_more = λ w store seq h came. clock_still w.clock;
   group = λ w records none room. group_ticked w.clock;
   change = λ w r stamp page is. clock_still w.clock;
   grant = λ w page epoch stamp tags vector new brought fits granted.
       clock_moves_both w.clock (clock.heard_scalar w.clock stamp.0) (clock.heard_vector (clock.heard_scalar w.clock stamp.0) vector) (stamp_heard w.clock stamp.0)
       (vector_heard (clock.heard_scalar w.clock stamp.0) vector brought.0);
   image = λ w image held same. image_clock w _;
-  fresh_page = λ w page is. clock_still w.clock;
+  fresh_page = λ w page is came. clock_still w.clock;
   fresh_none = λ w. clock_still w.clock;
   recall = λ w page epoch. clock_still w.clock;
   give_back = λ w page is. clock_still w.clock;
@@ -312,13 +312,13 @@ epoch_moves = record {
   both = λ a b c. epochs_both a.leases b.leases c.leases;
   hears_stamp = λ w stamp h. epochs_stay w.leases;
   hears_vector = λ w vector h. epochs_stay w.leases;
-  acks = λ w store seq h. epochs_stay w.leases;
-  acks_more = λ w store seq h. epochs_stay w.leases;
+  acks = λ w store seq h came. epochs_stay w.leases;
+  acks_more = λ w store seq h came. epochs_stay w.leases;
   group = λ w records none room. epochs_stay w.leases;
   change = λ w r stamp page is. epochs_changed w.leases page (record { 0 = stamp });
   grant = λ w page epoch stamp tags vector new brought fits granted. epochs_granted w.leases page.0 epoch stamp;
   image = λ w image held same. image_epochs w _;
-  fresh_page = λ w page is. epochs_granted w.leases page.0 1 (record { 0 = 0 });
+  fresh_page = λ w page is came. epochs_granted w.leases page.0 1 (record { 0 = 0 });
   fresh_none = λ w. epochs_stay w.leases;
   recall = λ w page epoch. epochs_recalled w.leases page epoch;
   give_back = λ w page is. epochs_releasing w.leases page;

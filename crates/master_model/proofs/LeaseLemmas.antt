@@ -202,13 +202,13 @@ lease_moves = record {
   both = λ a b c h k f. k (h f);
   hears_stamp = λ w stamp h f. f;
   hears_vector = λ w vector h f. f;
-  acks = λ w store seq h f. f;
-  acks_more = λ w store seq h f. f;
+  acks = λ w store seq h came f. f;
+  acks_more = λ w store seq h came f. f;
   group = λ w records none room f. f;
   change = λ w r stamp page is f. facts_changed w.leases w.left page (record { 0 = stamp }) f;
   grant = λ w page epoch stamp tags vector new brought fits granted f. facts_granted w.leases w.left page.0 epoch stamp new f;
   image = λ w image held same. image_leases w _;
-  fresh_page = λ w page is f. facts_fresh w.leases w.left page.0 (second_of_two (nat_lt 1024 page.0) (nat_eq (lease_of w.leases page.0).epoch 0) is) f;
+  fresh_page = λ w page is came f. facts_fresh w.leases w.left page.0 (second_of_two (nat_lt 1024 page.0) (nat_eq (lease_of w.leases page.0).epoch 0) is) f;
   fresh_none = λ w f. f;
   recall = λ w page epoch f. facts_recalled w.leases w.left page epoch f;
   give_back = λ w page is f. facts_back w page (first_of_two (is_recalled (lease_of w.leases page).state) _ is) f;

@@ -25,3 +25,6 @@ mod BegunLemmas
 mod OnceLemmas
 mod OpenEndLemmas
 mod EndedLemmas
+mod CauseLemmas
+mod EpochLemmas
+mod StageLemmas

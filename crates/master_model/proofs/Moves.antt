@@ -77,27 +77,34 @@ ended_in w session own committed =
     with_session (record w { clock = told (ticked w.clock); log = appended w.log (next_group w (end_of (txn_numbered w own.number) committed)) }) session
     (record own { progress = Ended committed (length w.log.groups + 1) })
 
--- Where a grant may bring any tags.
-abbrev pub AnyTags : Work → List Tag → Type 0
-AnyTags w tags = Unit {0}
+-- What makes a writer's state move that only a message can bring.
+pub data Cause : Type 0 where
+  Acked : (store seq : ℕ) → Cause
+  Granted : (page : Page) (epoch : ℕ) (stamp : Stamp) (tags : List Tag) (vector : List VectorEntry) → Cause
+  Fresh : (page : Page) → Cause
 
--- A relation that holds of each move, where the tags that a grant brings have a property.
-pub record ClosedFor (G : Work → List Tag → Type 0) (R : Work → Work → Type 0) : Type 0 where
+-- Where anything may come.
+abbrev pub AnyCause : Work → Cause → Type 0
+AnyCause w cause = Unit {0}
+
+-- A relation that holds of each move, where what a message brings has a property.
+pub record ClosedFor (G : Work → Cause → Type 0) (R : Work → Work → Type 0) : Type 0 where
   pub none : (w : Work) → R w w
   pub both : (a b c : Work) → R a b → R b c → R a c
   -- the clock
   pub hears_stamp : (w : Work) (stamp : ℕ) → stamp ≤ 2 ^ 63 - 1 → R w (record w { clock = heard_scalar w.clock stamp })
   pub hears_vector : (w : Work) (vector : List VectorEntry) → Brought vector → R w (hears w vector)
   -- the log
-  pub acks : (w : Work) (store seq : ℕ) → nat_lt (durable w) (durable (with_ack_of w store seq)) ≡ false → R w (with_ack_of w store seq)
-  pub acks_more : (w : Work) (store seq : ℕ) → nat_lt (durable w) (durable (with_ack_of w store seq)) ≡ true → R w (without_ended (with_ack_of w store seq) (durable w))
+  pub acks : (w : Work) (store seq : ℕ) → nat_lt (durable w) (durable (with_ack_of w store seq)) ≡ false → G w (Acked store seq) → R w (with_ack_of w store seq)
+  pub acks_more : (w : Work) (store seq : ℕ) → nat_lt (durable w) (durable (with_ack_of w store seq)) ≡ true → G w (Acked store seq)
+      → R w (without_ended (with_ack_of w store seq) (durable w))
   pub group : (w : Work) (records : List Record) → ends_in records ≡ [] → HasRoom w 1 → R w (record w { clock = told (ticked w.clock); log = appended w.log (next_group w records) })
   pub change : (w : Work) (r : Record) (stamp page : ℕ) → stamp ≡ w.clock.scalar → R w (with_change w r stamp (Some page))
   -- pages
   pub grant : (w : Work) (page : Page) (epoch : ℕ) (stamp : Stamp) (tags : List Tag) (vector : List VectorEntry)
-      → nat_lt (lease_of w.leases page.0).epoch epoch ≡ true → Brought vector → stamp.0 ≤ 2 ^ 63 - 1 → G w tags → R w (takes_page w page epoch stamp tags vector)
+      → nat_lt (lease_of w.leases page.0).epoch epoch ≡ true → Brought vector → stamp.0 ≤ 2 ^ 63 - 1 → G w (Granted page epoch stamp tags vector) → R w (takes_page w page epoch stamp tags vector)
   pub image : (w : Work) (image : Image) → is_held (lease_of w.leases image.page.0).state ≡ true → image.stamp.0 ≡ (lease_of w.leases image.page.0).stamp.0 → R w (with_image w image)
-  pub fresh_page : (w : Work) (page : Page) → nat_lt 1024 page.0 && nat_eq (lease_of w.leases page.0).epoch 0 ≡ true → R w (fresh_taken w page)
+  pub fresh_page : (w : Work) (page : Page) → nat_lt 1024 page.0 && nat_eq (lease_of w.leases page.0).epoch 0 ≡ true → G w (Fresh page) → R w (fresh_taken w page)
   pub fresh_none : (w : Work) → R w (record w { fresh = w.fresh + 1; spent = true })
   pub recall : (w : Work) (page epoch : ℕ) → R w (record w { leases = recalled w.leases page epoch })
   pub give_back : (w : Work) (page : ℕ) → is_ready (lease_of w.leases page) (settled w) ≡ true → R w (gives_back w page)
@@ -118,7 +125,7 @@ pub record ClosedFor (G : Work → List Tag → Type 0) (R : Work → Work → T
   pub free : (w : Work) (session : ℕ) (own : Own) (committed : Bool) (seq : ℕ) → fin.get w.sessions session ≡ Some own → own.progress ≡ Ended committed seq → seq ≤ durable w → R w (free w session)
 
 abbrev pub Closed : (Work → Work → Type 0) → Type 0
-Closed R = ClosedFor AnyTags R
+Closed R = ClosedFor AnyCause R
 
 -- What an answer or an effect makes of it.
 abbrev Stops : (Work → Work → Type 0) → Work → Option Answer → Type 0
@@ -147,7 +154,7 @@ end_last : (w : Work) (undone : List (List Record)) (records : List Record) → 
 end_last w [] records = refl
 end_last w (r ∷ rs) records = end_last (with_group w (next_group w r)) rs records
 
-module _ {G : Work → List Tag → Type 0} {R : Work → Work → Type 0} (c : ClosedFor G R) where
+module _ {G : Work → Cause → Type 0} {R : Work → Work → Type 0} (c : ClosedFor G R) where
   change_moves : (w : Work) (r : Record) (stamp : ℕ) (o : Option ℕ) → stamp ≡ w.clock.scalar → R w (with_change w r stamp o)
   change_moves w r stamp None is = c.none w
   change_moves w r stamp (Some page) is = c.change w r stamp page is

@@ -280,15 +280,15 @@ page_moves = record {
   both = λ a b c h k f. k (h f);
   hears_stamp = λ w stamp h f. f;
   hears_vector = λ w vector h f. f;
-  acks = λ w store seq h f. f;
-  acks_more = λ w store seq h f. f;
+  acks = λ w store seq h came f. f;
+  acks_more = λ w store seq h came f. f;
   group = λ w records none room f. f;
   change = λ w r stamp page is f.
       leases_on w.leases (desk.changed w.leases page (record { 0 = stamp })) _ w.stock (has_changed w.leases page (record { 0 = stamp }))
       (images_new w.leases w.pool.images _ w.stock (λ h. had_redone w.leases w.pool.images r stamp (image_of page w.pool.images) (λ image at. found_had w.leases page w.pool.images image at h.0) h) f);
   grant = λ w page epoch stamp tags vector new brought fits granted f. leases_on w.leases (desk.granted w.leases page.0 epoch stamp) w.pool.images w.stock (has_granted w.leases page.0 epoch stamp) f;
   image = λ w image held same. page_image w image _ (held_had (lease_of w.leases image.page.0).state held) _ refl;
-  fresh_page = λ w page is f.
+  fresh_page = λ w page is came f.
       let more = leases_on w.leases (desk.granted w.leases page.0 1 (record { 0 = 0 })) w.pool.images w.stock (has_granted w.leases page.0 1 (record { 0 = 0 })) f in
       record {
         fresh = all_pushed (λ (p : Page). Has (desk.granted w.leases page.0 1 (record { 0 = 0 })) p.0) w.stock page more.fresh

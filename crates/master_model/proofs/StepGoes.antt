@@ -85,13 +85,13 @@ rest_moves = record {
   both = rest_both;
   hears_stamp = λ w stamp h. rest_same w _ refl refl refl refl refl;
   hears_vector = λ w vector h. rest_same w _ refl refl refl refl refl;
-  acks = λ w store seq h. rest_same w _ refl refl refl refl refl;
-  acks_more = λ w store seq h. rest_same w _ refl refl refl refl refl;
+  acks = λ w store seq h came. rest_same w _ refl refl refl refl refl;
+  acks_more = λ w store seq h came. rest_same w _ refl refl refl refl refl;
   group = λ w records none room. rest_same w _ refl refl refl refl refl;
   change = λ w r stamp page is. rest_same w _ refl refl refl refl refl;
   grant = λ w page epoch stamp tags vector new brought fits granted. rest_same w _ refl refl refl refl refl;
   image = λ w image held same. image_rest w _;
-  fresh_page = λ w page is. record { number = refl; stores = refl; ends = λ t h. h; begun = omega arith; fresh = omega arith };
+  fresh_page = λ w page is came. record { number = refl; stores = refl; ends = λ t h. h; begun = omega arith; fresh = omega arith };
   fresh_none = λ w. record { number = refl; stores = refl; ends = λ t h. h; begun = omega arith; fresh = omega arith };
   recall = λ w page epoch. rest_same w _ refl refl refl refl refl;
   give_back = λ w page is. rest_same w _ refl refl refl refl refl;

@@ -47,7 +47,7 @@ use Rattle.master_model.specs.Recovery as recovery
 use Rattle.master_model.specs.Recovery.{LifeEffect, LifeAnswer, WrittenRow, hears_group, hears_groups, in_turn, is_next}
 use Rattle.master_model.specs.Step as does
 use Rattle.master_model.specs.Facts.{Brought, BringsNote, GroupBrought}
-use Rattle.master_model.proofs.Moves.{AnyTags, Closed, ClosedFor, with_ack_of, without_ended, fresh_taken, group_moves, begin_moves, get_moves, put_moves, commit_moves, abort_moves, undo_moves}
+use Rattle.master_model.proofs.Moves.{AnyCause, Cause, Acked, Granted, Fresh, Closed, ClosedFor, with_ack_of, without_ended, fresh_taken, group_moves, begin_moves, get_moves, put_moves, commit_moves, abort_moves, undo_moves}
 
 -- What is heard of a group is a vector.
 single_most : (writer stamp w most : ℕ) → stamp ≤ most → stamp_of (single writer stamp) w ≤ most
@@ -96,12 +96,25 @@ pub fresh_rises : (a : Bool) (epoch : ℕ) → a && nat_eq epoch 0 ≡ true → 
 fresh_rises true epoch is = grind (arith, nat_tests)
 fresh_rises false epoch is = absurd (cc is)
 
--- The tags that a message brings as a grant.
-abbrev pub Grants : (Work → List Tag → Type 0) → Work → Note → Type 0
-Grants G w (note.Grant writer page epoch of tags vector) = G w tags
-Grants G w other = Unit {0}
+-- What a message brings has a property, where it is for this writer.
+abbrev pub IsFor : Work → Writer → Type 0
+IsFor w writer = nat_eq writer.0 (writer_of w) ≡ true
 
-module _ {G : Work → List Tag → Type 0} {R : Work → Work → Type 0} (c : ClosedFor G R) where
+abbrev pub AllowsAck : (Work → Cause → Type 0) → Work → Writer → ℕ → Node → Type 0
+AllowsAck G w writer seq (LogStore store) = IsFor w writer → G w (Acked store seq)
+AllowsAck G w writer seq other = Unit {0}
+
+abbrev pub AllowsFresh : (Work → Cause → Type 0) → Work → Writer → Option Page → Type 0
+AllowsFresh G w writer None = Unit {0}
+AllowsFresh G w writer (Some page) = IsFor w writer → G w (Fresh page)
+
+abbrev pub Allows : (Work → Cause → Type 0) → Work → Node → Note → Type 0
+Allows G w from (note.Ack writer seq) = AllowsAck G w writer seq from
+Allows G w from (note.Grant writer page epoch of tags vector) = IsFor w writer → G w (Granted page epoch of tags vector)
+Allows G w from (note.FreshIs writer nth page) = AllowsFresh G w writer page
+Allows G w from other = Unit {0}
+
+module _ {G : Work → Cause → Type 0} {R : Work → Work → Type 0} (c : ClosedFor G R) where
   -- ---- pages
 
   ready_moves : (w : Work) (page : ℕ) → R w (leases.releases_ready w page).0
@@ -118,7 +131,7 @@ module _ {G : Work → List Tag → Type 0} {R : Work → Work → Type 0} (c : 
       c.both w one (leases.releases_all ps one).0 (ready_moves w p) (all_move ps one)
 
   grant_moves : (w : Work) (page : Page) (epoch : ℕ) (stamp : Stamp) (tags : List Tag) (vector : List VectorEntry) → Brought vector → stamp.0 ≤ 2 ^ 63 - 1
-      → G w tags → R w (leases.on_grant w page epoch stamp tags vector).0
+      → G w (Granted page epoch stamp tags vector) → R w (leases.on_grant w page epoch stamp tags vector).0
   grant_moves w page epoch stamp tags vector brought fits granted = by (nat_lt (lease_of w.leases page.0).epoch epoch) refl
     where
       taken : Work
@@ -132,20 +145,24 @@ module _ {G : Work → List Tag → Type 0} {R : Work → Work → Type 0} (c : 
       by false is = c.none w
       by true is = c.both w taken _ (c.grant w page epoch stamp tags vector is brought fits granted) (with_first (nat_eq stamp.0 0) refl is)
 
-  fresh_moves : (w : Work) (nth : ℕ) (page : Option Page) → R w (leases.on_fresh w nth page).0
-  fresh_moves w nth page = by (nat_eq nth (w.fresh + 1))
+  abbrev FreshIs : Work → Option Page → Type 0
+  FreshIs w None = Unit {0}
+  FreshIs w (Some page) = G w (Fresh page)
+
+  fresh_moves : (w : Work) (nth : ℕ) (page : Option Page) → FreshIs w page → R w (leases.on_fresh w nth page).0
+  fresh_moves w nth page came = by (nat_eq nth (w.fresh + 1))
     where
-      given : (p : Page) (b : Bool) → nat_lt 1024 p.0 && nat_eq (lease_of w.leases p.0).epoch 0 ≡ b → R w (leases.with_fresh_if w p b)
-      given p false is = c.none w
-      given p true is = c.both w (fresh_taken w p) _ (c.fresh_page w p is) (c.image (fresh_taken w p) (blank_page p) (granted_held w.leases p.0 1 (record { 0 = 0 }) (fresh_rises (nat_lt 1024 p.0) (lease_of w.leases p.0).epoch is))
+      given : (p : Page) (b : Bool) → nat_lt 1024 p.0 && nat_eq (lease_of w.leases p.0).epoch 0 ≡ b → G w (Fresh p) → R w (leases.with_fresh_if w p b)
+      given p false is came = c.none w
+      given p true is came = c.both w (fresh_taken w p) _ (c.fresh_page w p is came) (c.image (fresh_taken w p) (blank_page p) (granted_held w.leases p.0 1 (record { 0 = 0 }) (fresh_rises (nat_lt 1024 p.0) (lease_of w.leases p.0).epoch is))
           (granted_stamp w.leases p.0 1 (record { 0 = 0 }) (fresh_rises (nat_lt 1024 p.0) (lease_of w.leases p.0).epoch is) refl))
 
-      any : (o : Option Page) → R w (leases.with_fresh w o)
-      any None = c.fresh_none w
-      any (Some p) = given p (nat_lt 1024 p.0 && nat_eq (lease_of w.leases p.0).epoch 0) refl
+      any : (o : Option Page) → FreshIs w o → R w (leases.with_fresh w o)
+      any None came = c.fresh_none w
+      any (Some p) came = given p (nat_lt 1024 p.0 && nat_eq (lease_of w.leases p.0).epoch 0) refl came
 
       by : (b : Bool) → R w (leases.on_fresh_if w page b).0
-      by true = any page
+      by true = any page came
       by false = c.none w
 
   page_moves : (w : Work) (image : Image) → R w (leases.on_page w image).0
@@ -183,15 +200,19 @@ module _ {G : Work → List Tag → Type 0} {R : Work → Work → Type 0} (c : 
 
   -- ---- the log
 
-  ack_moves : (w : Work) (from : Node) (seq : ℕ) → R w (acks.on_ack w from seq).0
-  ack_moves w (LogStore store) seq = by (nat_lt (durable w) (durable (with_ack_of w store seq))) refl
+  abbrev AckIs : Work → ℕ → Node → Type 0
+  AckIs w seq (LogStore store) = G w (Acked store seq)
+  AckIs w seq other = Unit {0}
+
+  ack_moves : (w : Work) (from : Node) (seq : ℕ) → AckIs w seq from → R w (acks.on_ack w from seq).0
+  ack_moves w (LogStore store) seq came = by (nat_lt (durable w) (durable (with_ack_of w store seq))) refl
     where
       by : (b : Bool) → nat_lt (durable w) (durable (with_ack_of w store seq)) ≡ b → R w (acks.on_more (with_ack_of w store seq) (durable w) b).0
-      by false is = c.acks w store seq is
+      by false is = c.acks w store seq is came
       by true is =
           let told : Work = without_ended (with_ack_of w store seq) (durable w) in
-          c.both w told _ (c.acks_more w store seq is) (all_move (leases.recalled_pages (with_ack_of w store seq)) told)
-  ack_moves w other seq = c.none w
+          c.both w told _ (c.acks_more w store seq is came) (all_move (leases.recalled_pages (with_ack_of w store seq)) told)
+  ack_moves w other seq came = c.none w
 
   want_moves : (w : Work) (wanted : ℕ) → R w (acks.on_want w wanted).0
   want_moves w wanted = by (nat_lt (last_stamp w.log.groups) wanted) (has_numbers w 1) (has_stamps w 1) refl refl
@@ -290,28 +311,36 @@ module _ {G : Work → List Tag → Type 0} {R : Work → Work → Type 0} (c : 
 
   -- ---- a message
 
-  own_moves : (l : Life) (writer : Writer) (e : Effect) → R l.work e.0 → R l.work (does.own l writer e).0.work
-  own_moves l writer e h = by (nat_eq writer.0 (writer_of l.work))
+  own_moves : (l : Life) (writer : Writer) (e : Effect) → (IsFor l.work writer → R l.work e.0) → R l.work (does.own l writer e).0.work
+  own_moves l writer e h = by (nat_eq writer.0 (writer_of l.work)) refl
     where
-      by : (b : Bool) → R l.work (does.if_own l b e).0.work
-      by true = h
-      by false = c.none l.work
+      by : (b : Bool) → nat_eq writer.0 (writer_of l.work) ≡ b → R l.work (does.if_own l b e).0.work
+      by true is = h is
+      by false is = c.none l.work
+
+  ack_for : (w : Work) (writer : Writer) (seq : ℕ) (from : Node) → AllowsAck G w writer seq from → IsFor w writer → AckIs w seq from
+  ack_for w writer seq (LogStore store) k is = k is
+  ack_for w writer seq other k is = tt
+
+  fresh_for : (w : Work) (writer : Writer) (page : Option Page) → AllowsFresh G w writer page → IsFor w writer → FreshIs w page
+  fresh_for w writer None k is = tt
+  fresh_for w writer (Some page) k is = k is
 
   fenced_work : (l : Life) (o : Option RosterEntry) → (does.fenced_by l o).work ≡ l.work
   fenced_work l None = refl
   fenced_work l (Some e) = refl
 
-  pub note_moves_for : (l : Life) (from : Node) (stamp : ℕ) (n : Note) → BringsNote n → Grants G l.work n → R l.work (does.on_note l from stamp n).0.work
-  note_moves_for l from stamp (note.Ack writer seq) h k = own_moves l writer _ (ack_moves l.work from seq)
+  pub note_moves_for : (l : Life) (from : Node) (stamp : ℕ) (n : Note) → BringsNote n → Allows G l.work from n → R l.work (does.on_note l from stamp n).0.work
+  note_moves_for l from stamp (note.Ack writer seq) h k = own_moves l writer _ (λ is. ack_moves l.work from seq (ack_for l.work writer seq from k is))
   note_moves_for l from stamp (note.Sealed writer most) h k = by (nat_eq writer.0 (writer_of l.work))
     where
       by : (b : Bool) → R l.work (does.on_sealed_own l b).0.work
       by true = c.none l.work
       by false = c.none l.work
-  note_moves_for l from stamp (note.Grant writer page epoch of tags vector) h k = own_moves l writer _ (grant_moves l.work page epoch of tags vector h.0 h.1 k)
-  note_moves_for l from stamp (note.FreshIs writer nth page) h k = own_moves l writer _ (fresh_moves l.work nth page)
-  note_moves_for l from stamp (note.Recall writer page epoch) h k = own_moves l writer _ (recall_moves l.work page.0 epoch)
-  note_moves_for l from stamp (note.Released writer page epoch) h k = own_moves l writer _ (released_moves l.work page.0 epoch)
+  note_moves_for l from stamp (note.Grant writer page epoch of tags vector) h k = own_moves l writer _ (λ is. grant_moves l.work page epoch of tags vector h.0 h.1 (k is))
+  note_moves_for l from stamp (note.FreshIs writer nth page) h k = own_moves l writer _ (λ is. fresh_moves l.work nth page (fresh_for l.work writer page k is))
+  note_moves_for l from stamp (note.Recall writer page epoch) h k = own_moves l writer _ (λ is. recall_moves l.work page.0 epoch)
+  note_moves_for l from stamp (note.Released writer page epoch) h k = own_moves l writer _ (λ is. released_moves l.work page.0 epoch)
   note_moves_for l from stamp (note.PageIs image) h k = page_moves l.work image
   note_moves_for l from stamp (note.Ask txn master) h k = ask_moves l.work txn master
   note_moves_for l from stamp (note.Fate txn ended vector) h k = fate_moves l.work txn ended vector h
@@ -319,7 +348,7 @@ module _ {G : Work → List Tag → Type 0} {R : Work → Work → Type 0} (c : 
       let kept : Life = record l { roster = entries; recovery = does.over_by l.recovery (recovery.entry_of entries (does.writer_under l.recovery)) } in
       subst (R l.work) (sym (fenced_work kept (recovery.entry_of entries (writer_of l.work)))) (c.none l.work)
   note_moves_for l from stamp (note.Want None) h k = c.none l.work
-  note_moves_for l from stamp (note.Want (Some writer)) h k = own_moves l writer _ (want_moves l.work stamp)
+  note_moves_for l from stamp (note.Want (Some writer)) h k = own_moves l writer _ (λ is. want_moves l.work stamp)
   note_moves_for l from stamp (note.SealedAt writer most) h k = sealed_moves l writer.0 most from
   note_moves_for l from stamp (note.Closed writer most store) h k = closed_moves l writer.0 store most
   note_moves_for l from stamp (note.Groups writer groups) h k = recovering_moves l writer.0 _ (λ r. scanned_moves l r writer.0 groups r.stage h)
@@ -390,9 +419,19 @@ module _ {G : Work → List Tag → Type 0} {R : Work → Work → Type 0} (c : 
   command_moves l session command.Abort = abort_moves c l.work session
   command_moves l session (command.Recover writer) = recover_moves l writer
 
-any_granted : (w : Work) (n : Note) → Grants AnyTags w n
-any_granted w (note.Grant writer page epoch of tags vector) = tt
-any_granted w other = tt
+any_ack : (w : Work) (writer : Writer) (seq : ℕ) (from : Node) → AllowsAck AnyCause w writer seq from
+any_ack w writer seq (LogStore store) = λ is. tt
+any_ack w writer seq other = tt
+
+any_fresh : (w : Work) (writer : Writer) (page : Option Page) → AllowsFresh AnyCause w writer page
+any_fresh w writer None = tt
+any_fresh w writer (Some page) = λ is. tt
+
+any_allowed : (w : Work) (from : Node) (n : Note) → Allows AnyCause w from n
+any_allowed w from (note.Ack writer seq) = any_ack w writer seq from
+any_allowed w from (note.Grant writer page epoch of tags vector) = λ is. tt
+any_allowed w from (note.FreshIs writer nth page) = any_fresh w writer page
+any_allowed w from other = tt
 
 pub note_moves : {R : Work → Work → Type 0} (c : Closed R) (l : Life) (from : Node) (stamp : ℕ) (n : Note) → BringsNote n → R l.work (does.on_note l from stamp n).0.work
-note_moves c l from stamp n h = note_moves_for c l from stamp n h (any_granted l.work n)
+note_moves c l from stamp n h = note_moves_for c l from stamp n h (any_allowed l.work from n)

@@ -347,8 +347,8 @@ tag_moves = record {
   both = λ a b c h k x. k (h x);
   hears_stamp = λ w stamp is h. (h.0, h.1, record { had = h.2.had; binds = h.2.binds });
   hears_vector = λ w vector is h. (h.0, h.1, record { had = h.2.had; binds = h.2.binds });
-  acks = λ w store seq is h. (h.0, session_facts.acks w store seq is h.1, acked_tags w store seq is h.2);
-  acks_more = λ w store seq is h. (h.0, session_facts.acks_more w store seq is h.1, more_tags w store seq h.1 h.2);
+  acks = λ w store seq is came h. (h.0, session_facts.acks w store seq is tt h.1, acked_tags w store seq is h.2);
+  acks_more = λ w store seq is came h. (h.0, session_facts.acks_more w store seq is tt h.1, more_tags w store seq h.1 h.2);
   group = λ w records none room h. (
     h.0,
     session_facts.group w records none room h.1,
@@ -361,8 +361,8 @@ tag_moves = record {
     let all = granted_tags w page.0 epoch stamp tags new h.2 in record { had = λ t at. (all t at).0; binds = λ t at. (all t at).1 },
   );
   image = λ w image held same h. (page_moves.image w image held same h.0, session_facts.image w image held same h.1, image_tags w _ h.2);
-  fresh_page = λ w page is h. (
-    page_moves.fresh_page w page is h.0,
+  fresh_page = λ w page is came h. (
+    page_moves.fresh_page w page is tt h.0,
     h.1,
     record { had = λ t at. has_granted w.leases page.0 1 (record { 0 = 0 }) t.page (h.2.had t at); binds = h.2.binds },
   );

@@ -14,3 +14,5 @@ pub mod Facts
 pub mod Goes
 pub mod Told
 pub mod Replies
+pub mod Causes
+pub mod Stages

@@ -5,15 +5,16 @@
 //! one step: what holds before it and after it (`Facts`), and how the state goes on (`Goes`). `begun` is the stamp
 //! at which the master's writer began, as the lock manager has it. What a message brings (`Brings`) is what each
 //! message has that the format of messages can spell.
-ghost use Rattle.std.specs.Prelude.{◌≡◌, ℕ, Bool, true, List, Option};
+ghost use Rattle.std.specs.Prelude.{◌≡◌, ◌⊎◌, ℕ, Bool, true, List, [], Option, None, Some};
 ghost use Rattle.std.specs.List.{AllByRecursion};
 ghost use Rattle.std.specs.FinSet as sets;
 ghost use Rattle.log_writer.specs.Log.{resent, unacked};
 ghost use Rattle.tm_base.specs.declared.command.Command.{Command};
 ghost use Rattle.tm_base.specs.declared.command.Command.TheVariants as command;
 ghost use Rattle.tm_base.specs.declared.message.Message.{Message};
+ghost use Rattle.tm_base.specs.declared.message.Note.TheVariants as note;
 ghost use Rattle.tm_base.specs.declared.reply.Reply.TheVariants as reply;
-ghost use Rattle.master_model.specs.State.{State, Work};
+ghost use Rattle.master_model.specs.State.{Life, State, Work};
 ghost use Rattle.master_model.specs.Fates.{has_ended, is_open, is_own};
 ghost use Rattle.master_model.specs.Tags.{PageTag};
 ghost use Rattle.master_model.specs.Reads.{get};
@@ -22,6 +23,8 @@ ghost use Rattle.master_model.specs.Step.{on_command, start, step, tick};
 ghost use Rattle.master_model.specs.Facts.{Brings, DurableEnd, EndIsDurable, Facts, GrantIsBegun, JoinsAfter, Lacks, OwnTags, TagsAreBegun, WorkFacts, own_txn};
 ghost use Rattle.master_model.specs.Goes.{Goes};
 ghost use Rattle.master_model.specs.Told.{Sent};
+ghost use Rattle.master_model.specs.Causes.{AcknowledgesOwn, EpochCame, Joins, WriterStays, epoch_in, is_noted, roster_in};
+ghost use Rattle.master_model.specs.Stages.{RecoveryGoes, RecoveryIsAsked, StagesAreSaid};
 
 /// What holds in every state holds at the start, where nothing is known yet. It speaks of the start alone: refused is
 /// a fact that wants a master to have joined.
@@ -167,4 +170,62 @@ pub fn what_has_ended_is_durable()
 /// is free.
 pub fn an_open_transaction_has_no_durable_end()
     ensures { (begun : ℕ) (w : Work) (number : ℕ) (committed : Bool) → WorkFacts begun w → is_open w number ≡ true → DurableEnd w.log (own_txn w.log number) committed → ⊥ }
+{}
+
+/// A mark in the own log comes only from an acknowledgement: of a group of the own writer, by the log store itself, of
+/// that number. A command makes none. So what a master takes for durable was acknowledged by each log store. Refused
+/// is a master that notes the acknowledgement of another writer's group as its own, and one that takes a store's word
+/// for another store's.
+pub fn marks_come_from_acknowledgements()
+    ensures message { (s : State) (m : Message) (seq store : ℕ) → Brings m → is_noted (step s m).0.life seq store ≡ true → (is_noted s.life seq store ≡ true) ⊎ AcknowledgesOwn (step s m).0.life m seq store }
+    ensures command { (s : State) (session : ℕ) (asked : Command) (seq store : ℕ) → is_noted (on_command s session asked).0.life seq store ≡ true → is_noted s.life seq store ≡ true }
+{}
+
+/// A life begins with the answer to the registering of its own boot, and with nothing else: as the writer that the
+/// answer names, with an empty log and with the answer's stamp as its scalar. From then on it has this writer for ever.
+/// Refused is a master that takes the answer to an earlier boot, and with it the writer of a life that is over, and one
+/// that takes a second answer for a new writer.
+pub fn a_life_begins_as_it_was_registered()
+    ensures begins { (s : State) (m : Message) (l : Life) → s.life ≡ None → (step s m).0.life ≡ Some l → Joins s m l }
+    ensures waits { (s : State) (session : ℕ) (asked : Command) → s.life ≡ None → (on_command s session asked).0.life ≡ None }
+    ensures message { (s : State) (m : Message) → Brings m → WriterStays s.life (step s m).0.life }
+    ensures command { (s : State) (session : ℕ) (asked : Command) → WriterStays s.life (on_command s session asked).0.life }
+{}
+
+/// The epoch that a master has of a page is the one that it had, or that of a grant to its writer which has just come,
+/// or 1 by a fresh page that it was just given. A command changes none. Refused is a master that takes an epoch from a
+/// recall, one that takes another writer's grant, and one that holds a fresh page at epoch 2.
+pub fn epochs_come_with_pages()
+    ensures message { (s : State) (m : Message) (page : ℕ) → Brings m → (epoch_in (step s m).0.life page ≡ epoch_in s.life page) ⊎ EpochCame s.life m page (epoch_in (step s m).0.life page) }
+    ensures command { (s : State) (session : ℕ) (asked : Command) (page : ℕ) → epoch_in (on_command s session asked).0.life page ≡ epoch_in s.life page }
+{}
+
+/// A recovery moves only as its stages say, by what comes of its writer: a sealed log's length, by the log store that
+/// sealed it, asks for the close there; the close says from which store how many groups are read; of the groups that
+/// come the next ones are read, in order, and no other; once all are, the pages are taken over, part after part; and
+/// after the last part as many rows are to be undone as those groups leave. It ends by the word that its writer is
+/// recovered. The command begins it, undoes a row of it, and has the lock manager told only once what was undone is
+/// durable. Refused is a recovery that is closed at a length that no store said, one that stops before the last group of
+/// the close, one that passes over a part of the pages, and one that tells before its last group is durable.
+pub fn recoveries_move_by_what_comes()
+    ensures message { (s : State) (m : Message) → RecoveryGoes m s.life (step s m).0.life }
+    ensures command { (s : State) (session : ℕ) (asked : Command) → RecoveryIsAsked asked s.life (on_command s session asked).0.life }
+{}
+
+/// What a recovery sends says where it is after the step: a Seal is of its writer, a Close has the store and the length
+/// that were sealed, a Fetch goes to the close's store and asks for the group that is awaited, a Takeover lists the
+/// pages of its part and says whether it is the last one, and an Undone is sent once all is undone. Refused is a Close
+/// with another store's length, a Fetch that skips a group, and a Takeover that lists the part before.
+pub fn a_recovery_says_where_it_is()
+    ensures message { (s : State) (m : Message) → StagesAreSaid (step s m).0.life (step s m).1 }
+    ensures command { (s : State) (session : ℕ) (asked : Command) → StagesAreSaid (on_command s session asked).0.life (on_command s session asked).2 }
+    ensures tick { (s : State) → StagesAreSaid s.life (tick s) }
+{}
+
+/// The roster that a master keeps is the last one that came, or there is none. Refused is a master that keeps the
+/// entries of an older roster beside the new ones, and one that drops it once a writer is recovered.
+pub fn the_roster_is_one_that_came()
+    ensures start { (number boot stores : ℕ) → roster_in (start number boot stores).0.life ≡ [] }
+    ensures message { (s : State) (m : Message) → (roster_in (step s m).0.life ≡ roster_in s.life) ⊎ (m.note ≡ note.Roster (roster_in (step s m).0.life)) }
+    ensures command { (s : State) (session : ℕ) (asked : Command) → roster_in (on_command s session asked).0.life ≡ roster_in s.life }
 {}
