@@ -6,6 +6,9 @@ use Rattle.std.specs.List.{AllByRecursion}
 use Rattle.std.specs.Ordering.{nat_cmp}
 use Rattle.std.specs.FinMap.{FinMap}
 use Rattle.std.specs.FinMap as fin
+use Rattle.std.specs.FinSet.{FinSet}
+use Rattle.std.specs.FinSet as sets
+use Rattle.tm_data.specs.Orders.{writer_cmp}
 use Rattle.std.specs.declared.result.Result.{Result}
 use Rattle.tm_data.specs.declared.image.Image.{Image}
 use Rattle.tm_data.specs.declared.transaction.Page.{Page}
@@ -60,8 +63,8 @@ abbrev pub apart : World → FinMap nat_cmp PageStoreState → FinMap nat_cmp (D
 apart w page shelf replica lives past messages = record w { page = page; shelf = shelf; replica = replica; lives = lives; past = past; sent = w.sent ++ messages }
 
 pub apart_holds : (w : World) (b : Beside) (page : FinMap nat_cmp PageStoreState) (shelf : FinMap nat_cmp (Disk Item)) (replica : FinMap nat_cmp replica.State) (lives : FinMap nat_cmp ℕ)
-    (past : Past) (messages : List Message) → past.hard ≡ w.past.hard → AllSay (view w b) messages → LogsHold w b → LogsHold (apart w page shelf replica lives past messages) b
-apart_holds w b page shelf replica lives past messages same says h = record {
+    (past : Past) (messages : List Message) → past.hard ≡ w.past.hard → past.ended ≡ w.past.ended → AllSay (view w b) messages → LogsHold w b → LogsHold (apart w page shelf replica lives past messages) b
+apart_holds w b page shelf replica lives past messages same ended says h = record {
   stores = h.stores;
   lives = record {
     lock = h.lives.lock;
@@ -71,12 +74,13 @@ apart_holds w b page shelf replica lives past messages same says h = record {
     masters = h.lives.masters;
     ends = h.lives.ends;
     past = λ writer. ap (λ (hs : FinMap nat_cmp ℕ). or_zero (fin.get hs writer)) same ∙ h.lives.past writer;
+    closed = λ writer. ap (λ (ws : FinSet writer_cmp). sets.contains ws writer) ended ∙ h.lives.closed writer;
   };
   sent = both (Says (view w b)) w.sent messages h.sent says;
 }
 
 pub nothing_holds : (w : World) (b : Beside) → LogsHold w b → LogsHold (apart w w.page w.shelf w.replica w.lives w.past []) b
-nothing_holds w b h = apart_holds w b w.page w.shelf w.replica w.lives w.past [] refl tt h
+nothing_holds w b h = apart_holds w b w.page w.shelf w.replica w.lives w.past [] refl refl tt h
 
 page_says : (v : View) (s : PageStoreState) (ms : List Message) → AllByRecursion (page_told.IsSentBy s) ms → AllSay v ms
 page_says v s ms h = each (page_told.IsSentBy s) (Says v) (λ m f. subst (SaysFrom v m) (sym f.sender) f.kind) ms h
@@ -95,6 +99,14 @@ answers_hard : (p : Past) (stamp : ℕ) (ms : List Message) → (answers_page p 
 answers_hard p stamp [] = refl
 answers_hard p stamp (m ∷ ms) = answers_hard (answer_of p stamp m.note) stamp ms ∙ answer_hard p stamp m.note
 
+answer_ended : (p : Past) (stamp : ℕ) (n : Note) → (answer_of p stamp n).ended ≡ p.ended
+answer_ended p stamp (note.PageIs image) = refl
+answer_ended p stamp n = refl
+
+answers_ended : (p : Past) (stamp : ℕ) (ms : List Message) → (answers_page p stamp ms).ended ≡ p.ended
+answers_ended p stamp [] = refl
+answers_ended p stamp (m ∷ ms) = answers_ended (answer_of p stamp m.note) stamp ms ∙ answer_ended p stamp m.note
+
 page_kept : (w : World) (b : Beside) (number : ℕ) (m : Message) (new : PageStoreState) (messages : List Message) (k : Worked Item) → AllSay (view w b) messages → LogsHold w b
     → LogsHold (page_keeps w number m new messages k).world b
 page_kept w b number m new messages k says h = by k.done
@@ -102,8 +114,8 @@ page_kept w b number m new messages k says h = by k.done
     by : (c : Bool) → LogsHold (page_keeps w number m new messages (record { disk = k.disk; done = c })).world b
     by true =
         apart_holds w b (fin.insert w.page number new) (fin.insert w.shelf number k.disk) w.replica w.lives (answers_page w.past m.stamp.0 messages) messages
-        (answers_hard w.past m.stamp.0 messages) says h
-    by false = apart_holds w b (fin.remove w.page number) (fin.insert w.shelf number k.disk) w.replica w.lives w.past [] refl tt h
+        (answers_hard w.past m.stamp.0 messages) (answers_ended w.past m.stamp.0 messages) says h
+    by false = apart_holds w b (fin.remove w.page number) (fin.insert w.shelf number k.disk) w.replica w.lives w.past [] refl refl tt h
 
 page_taken : ApartLaws → (w : World) (b : Beside) (number : ℕ) (m : Message) → LogsHold w b → (o : Option PageStoreState) → LogsHold (page_takes w number m o).world b
 page_taken law w b number m h None = nothing_holds w b h
@@ -114,24 +126,24 @@ page_taken law w b number m h (Some s) =
 page_ticked : ApartLaws → (w : World) (b : Beside) (number : ℕ) → LogsHold w b → (o : Option PageStoreState) → LogsHold (page_ticks w number o).world b
 page_ticked law w b number h None = nothing_holds w b h
 page_ticked law w b number h (Some s) =
-    apart_holds w b (fin.insert w.page number (page_step.ticked s).0) w.shelf w.replica w.lives w.past (page_step.ticked s).1 refl
+    apart_holds w b (fin.insert w.page number (page_step.ticked s).0) w.shelf w.replica w.lives w.past (page_step.ticked s).1 refl refl
     (page_says (view w b) s (page_step.ticked s).1 (law.page_tick_sent s)) h
 
 page_opened : (w : World) (b : Beside) (number : ℕ) (k : Worked Item) → LogsHold w b → LogsHold (page_opens w number k).world b
 page_opened w b number k h = by k.done
   where
     by : (c : Bool) → LogsHold (page_opens w number (record { disk = k.disk; done = c })).world b
-    by true = apart_holds w b _ (fin.insert w.shelf number k.disk) w.replica w.lives w.past [] refl tt h
-    by false = apart_holds w b w.page (fin.insert w.shelf number k.disk) w.replica w.lives w.past [] refl tt h
+    by true = apart_holds w b _ (fin.insert w.shelf number k.disk) w.replica w.lives w.past [] refl refl tt h
+    by false = apart_holds w b w.page (fin.insert w.shelf number k.disk) w.replica w.lives w.past [] refl refl tt h
 
 page_read : ApartLaws → (w : World) (b : Beside) (number stamp : ℕ) (s : PageStoreState) → LogsHold w b → (found : Result Image ReadRefusal)
     → LogsHold (reads_page w number stamp (wants_after s stamp found) found).world b
-page_read law w b number stamp s h (Ok image) = apart_holds w b w.page w.shelf w.replica w.lives _ [] refl tt h
+page_read law w b number stamp s h (Ok image) = apart_holds w b w.page w.shelf w.replica w.lives _ [] refl refl tt h
 page_read law w b number stamp s h (Err why) =
-    apart_holds w b w.page w.shelf w.replica w.lives w.past (wants s why stamp) refl (page_says (view w b) s (wants s why stamp) (law.page_wants_sent s why stamp)) h
+    apart_holds w b w.page w.shelf w.replica w.lives w.past (wants s why stamp) refl refl (page_says (view w b) s (wants s why stamp) (law.page_wants_sent s why stamp)) h
 
 version_read : (w : World) (b : Beside) (number stamp : ℕ) → LogsHold w b → (found : Result Image ReadRefusal) → LogsHold (reads_page w number stamp [] found).world b
-version_read w b number stamp h (Ok image) = apart_holds w b w.page w.shelf w.replica w.lives _ [] refl tt h
+version_read w b number stamp h (Ok image) = apart_holds w b w.page w.shelf w.replica w.lives _ [] refl refl tt h
 version_read w b number stamp h (Err why) = nothing_holds w b h
 
 -- ---- replicas
@@ -139,17 +151,17 @@ version_read w b number stamp h (Err why) = nothing_holds w b h
 replica_taken : ApartLaws → (w : World) (b : Beside) (number : ℕ) (m : Message) → LogsHold w b → (o : Option replica.State) → LogsHold (replica_takes w number m o).world b
 replica_taken law w b number m h None = nothing_holds w b h
 replica_taken law w b number m h (Some s) =
-    apart_holds w b w.page w.shelf (fin.insert w.replica number (replica_step.step s m).0) w.lives w.past (replica_step.step s m).1 refl
+    apart_holds w b w.page w.shelf (fin.insert w.replica number (replica_step.step s m).0) w.lives w.past (replica_step.step s m).1 refl refl
     (replica_says (view w b) s (replica_step.step s m).1 (law.replica_step_sent s m)) h
 
 replica_ticked : ApartLaws → (w : World) (b : Beside) (number : ℕ) → LogsHold w b → (o : Option replica.State) → LogsHold (replica_ticks w number o).world b
 replica_ticked law w b number h None = nothing_holds w b h
 replica_ticked law w b number h (Some s) =
-    apart_holds w b w.page w.shelf (fin.insert w.replica number (replica_step.ticked s).0) w.lives w.past (replica_step.ticked s).1 refl
+    apart_holds w b w.page w.shelf (fin.insert w.replica number (replica_step.ticked s).0) w.lives w.past (replica_step.ticked s).1 refl refl
     (replica_says (view w b) s (replica_step.ticked s).1 (law.replica_tick_sent s)) h
 
 point_holds : (w : World) (b : Beside) (number : ℕ) (new : replica.State) → LogsHold w b → (found : Result ℕ Unpublished) → LogsHold (published w number new found).world b
-point_holds w b number new h (Ok point) = apart_holds w b w.page w.shelf (fin.insert w.replica number new) w.lives _ [] refl tt h
+point_holds w b number new h (Ok point) = apart_holds w b w.page w.shelf (fin.insert w.replica number new) w.lives _ [] refl refl tt h
 point_holds w b number new h (Err (Waits e)) = nothing_holds w b h
 point_holds w b number new h (Err Full) = nothing_holds w b h
 
@@ -167,6 +179,7 @@ master_gone w b number h = record {
     masters = λ n s is. by n s is (nat_eq n number) refl;
     ends = h.lives.ends;
     past = h.lives.past;
+    closed = h.lives.closed;
   };
   sent = both (Says (view w b)) w.sent [] h.sent tt;
 }
@@ -256,6 +269,7 @@ module _ (w : World) (b : Beside) (number : ℕ) where
           masters = masters_start h;
           ends = h.lives.ends;
           past = h.lives.past;
+          closed = h.lives.closed;
         };
         sent = both (Says (view t b)) w.sent (master_step.registers waits ∷ [])
             (each (Says (view w b)) (Says (view t b)) (λ m. sayings_stay law.of_moves.tells (view w b) (view t b) m (start_goes law)) w.sent h.sent)
@@ -306,21 +320,21 @@ scan_asked w b number point table from count h (Some s) = nothing_holds w b h
 pub node_begins : ApartLaws → (w : World) (b : Beside) (node : Node) → MayStop node → LogsHold w b → LogsHold (begins w node).world b
 node_begins law w b (Master number) of h = master_started w b number law h
 node_begins law w b (PageStore number) of h = page_opened w b number (opened item_size (shelf_of w number)) h
-node_begins law w b (Replica number) of h = apart_holds w b w.page w.shelf _ _ w.past [] refl tt h
+node_begins law w b (Replica number) of h = apart_holds w b w.page w.shelf _ _ w.past [] refl refl tt h
 node_begins law w b (LogStore number) of h = absurd of
 node_begins law w b LockManager of h = absurd of
 
 node_stops : (w : World) (b : Beside) (node : Node) (mode : ℕ) → MayStop node → LogsHold w b → LogsHold (world_step w (step.Stop node mode)).world b
 node_stops w b (Master number) mode of h = up w b (Master number) (runs w (Master number)) _ h (master_gone w b number h)
-node_stops w b (PageStore number) mode of h = up w b (PageStore number) (runs w (PageStore number)) _ h (apart_holds w b (fin.remove w.page number) w.shelf w.replica w.lives w.past [] refl tt h)
-node_stops w b (Replica number) mode of h = up w b (Replica number) (runs w (Replica number)) _ h (apart_holds w b w.page w.shelf (fin.remove w.replica number) w.lives w.past [] refl tt h)
+node_stops w b (PageStore number) mode of h = up w b (PageStore number) (runs w (PageStore number)) _ h (apart_holds w b (fin.remove w.page number) w.shelf w.replica w.lives w.past [] refl refl tt h)
+node_stops w b (Replica number) mode of h = up w b (Replica number) (runs w (Replica number)) _ h (apart_holds w b w.page w.shelf (fin.remove w.replica number) w.lives w.past [] refl refl tt h)
 node_stops w b (LogStore number) mode of h = absurd of
 node_stops w b LockManager mode of h = absurd of
 
 disk_fails : (w : World) (b : Beside) (node : Node) (call mode : ℕ) → MayStop node → LogsHold w b → LogsHold (world_step w (step.Fail node call mode)).world b
 disk_fails w b (Master number) call mode of h = up w b (Master number) (runs w (Master number)) _ h (nothing_holds w b h)
 disk_fails w b (PageStore number) call mode of h =
-    up w b (PageStore number) (runs w (PageStore number)) _ h (apart_holds w b w.page (fin.insert w.shelf number (arm (shelf_of w number) call mode)) w.replica w.lives w.past [] refl tt h)
+    up w b (PageStore number) (runs w (PageStore number)) _ h (apart_holds w b w.page (fin.insert w.shelf number (arm (shelf_of w number) call mode)) w.replica w.lives w.past [] refl refl tt h)
 disk_fails w b (Replica number) call mode of h = up w b (Replica number) (runs w (Replica number)) _ h (nothing_holds w b h)
 disk_fails w b (LogStore number) call mode of h = absurd of
 disk_fails w b LockManager call mode of h = absurd of

@@ -3,6 +3,8 @@ use Rattle.std.proofs.Common.{◌≡◌, ◌-◌, ℕ, Bool, true, false, cond, 
 use Rattle.std.specs.Ordering.{nat_cmp}
 use Rattle.std.specs.FinMap.{FinMap, gets}
 use Rattle.std.specs.FinMap as fin
+use Rattle.std.specs.FinSet as sets
+use Rattle.tm_data.specs.Orders.{writer_cmp}
 use Rattle.tm_data.specs.declared.log.Group.{Group}
 use Rattle.log_writer.specs.Log.{is_marked, marked_of}
 use Rattle.master_model.specs.State.{Life}
@@ -62,6 +64,7 @@ stopped_holds facts of masters page_stores replicas =
         masters = λ number s is. absurd (let c : None ≡ Some s = sym (none_there number) ∙ is in cc c);
         ends = λ writer end is. absurd (let c : None ≡ Some end = is in cc c);
         past = λ writer. ap or_zero (none_there writer) ∙ sym (ap durable_by (none_there writer));
+        closed = λ writer. sets.contains-empty writer_cmp writer;
       };
       sent = tt;
     }

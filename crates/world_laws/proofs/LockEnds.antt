@@ -1,7 +1,11 @@
 -- What a step of the lock manager does to the ends of logs, and to what is kept of them.
-use Rattle.std.proofs.Common.{◌≡◌, ◌≢◌, ◌⊎◌, ℕ, Bool, true, false, not, cond, ◌&&◌, nat_eq, List, Option, Some, None, refl, sym, subst, ap, ◌∙◌, inl, inr, arith}
+use Rattle.std.proofs.Common.{◌≡◌, ◌≢◌, ◌⊎◌, ℕ, Bool, true, false, not, cond, ◌&&◌, ◌||◌, nat_eq, List, Option, Some, None, refl, sym, subst, ap, ◌∙◌, inl, inr, arith}
 use Rattle.std.proofs.lemmas.Bool.Decides.{nat_tests}
 use Rattle.std.specs.FinMap as fin
+use Rattle.std.specs.FinSet.{FinSet}
+use Rattle.std.specs.FinSet as sets
+use Rattle.std.specs.Cmp.{unsigned_tied}
+use Rattle.tm_data.specs.Orders.{writer_cmp, writer_cmp-total}
 use Rattle.tm_data.specs.declared.transaction.Writer.{Writer}
 use Rattle.tm_data.specs.declared.vector.VectorEntry.{VectorEntry}
 use Rattle.tm_base.specs.declared.message.Node.{Node}
@@ -61,6 +65,7 @@ closed_end false length store e x h = refl
 pub record NoEnd (p : Past) (s t : State) (n : Note) : Type 0 where
   pub same : (w : ℕ) → ended_at (at t.writers w) ≡ ended_at (at s.writers w)
   pub reached : (managed_by p s t n).hard ≡ p.hard
+  pub closed : (managed_by p s t n).ended ≡ p.ended
 
 -- Or a close gives one writer's log its end, and that is its number.
 pub record OneEnd (p : Past) (s t : State) (n : Note) : Type 0 where
@@ -71,6 +76,7 @@ pub record OneEnd (p : Past) (s t : State) (n : Note) : Type 0 where
   pub now : ended_at (at t.writers writer.0) ≡ Some end
   pub others : (w : ℕ) → w ≢ writer.0 → ended_at (at t.writers w) ≡ ended_at (at s.writers w)
   pub reached : (managed_by p s t n).hard ≡ fin.insert p.hard writer.0 end.length
+  pub closed : (managed_by p s t n).ended ≡ sets.insert p.ended writer
 
 abbrev pub Ends : Past → State → State → Note → Type 0
 Ends p s t n = NoEnd p s t n ⊎ OneEnd p s t n
@@ -79,12 +85,29 @@ recovers_hard : (p : Past) (w : Writer) (b : Bool) → (cond b (recovers p w) p)
 recovers_hard p w true = refl
 recovers_hard p w false = refl
 
+recovers_ended : (p : Past) (w : Writer) (b : Bool) → (cond b (recovers p w) p).ended ≡ p.ended
+recovers_ended p w true = refl
+recovers_ended p w false = refl
+
+-- ---- sets of writers
+
+pub ended_here : (ws : FinSet writer_cmp) (w added : Writer) → w.0 ≡ added.0 → sets.contains (sets.insert ws added) w ≡ true
+ended_here ws w added same =
+    sets.contains-insert writer_cmp-total ws added w
+    ∙ ap (λ (b : Bool). b || sets.contains ws w) (unsigned_tied w.0 added.0 ∙ (let yes : nat_eq w.0 added.0 ≡ true = grind (arith, nat_tests) in yes))
+
+pub ended_other : (ws : FinSet writer_cmp) (w added : Writer) → w.0 ≢ added.0 → sets.contains (sets.insert ws added) w ≡ sets.contains ws w
+ended_other ws w added apart =
+    sets.contains-insert writer_cmp-total ws added w
+    ∙ ap (λ (b : Bool). b || sets.contains ws w) (unsigned_tied w.0 added.0 ∙ (let not : nat_eq w.0 added.0 ≡ false = grind (arith, nat_tests) in not))
+
 not_closed : (p : Past) (s t : State) (from : Node) (writer : Writer) (length store : ℕ) → IsAfter s from (note.Close writer length store) t
     → past.is_live (at s.writers writer.0) ≡ false
     → NoEnd p s t (note.Close writer length store)
 not_closed p s t from writer length store a over = record {
   same = λ w. kept_end_where w;
   reached = ap (λ (b : Bool). (cond (b && not (past.is_live (at t.writers writer.0))) (closes p writer length) p).hard) over;
+  closed = ap (λ (b : Bool). (cond (b && not (past.is_live (at t.writers writer.0))) (closes p writer length) p).ended) over;
 }
   where
     status_over : (w : ℕ) (e : WriterEntry) → at s.writers w ≡ Some e → nat_eq w writer.0 ≡ true → is_live e.status ≡ false
@@ -114,6 +137,8 @@ closed p s t from writer length store a e is live = record {
   others = others;
   reached = ap (λ (b : Bool). (cond (b && not (past.is_live (at t.writers writer.0))) (closes p writer length) p).hard) was_live
       ∙ ap (λ (b : Bool). (cond (not b) (closes p writer length) p).hard) now_over;
+  closed = ap (λ (b : Bool). (cond (b && not (past.is_live (at t.writers writer.0))) (closes p writer length) p).ended) was_live
+      ∙ ap (λ (b : Bool). (cond (not b) (closes p writer length) p).ended) now_over;
 }
   where
     one : nat_eq writer.0 writer.0 ≡ true
@@ -159,12 +184,13 @@ close_ends p s t from writer length store a = by (at s.writers writer.0) refl
 pub ends_of : (p : Past) (s t : State) (from : Node) (n : Note) → IsAfter s from n t → Ends p s t n
 ends_of p s t from (note.Close writer length store) a = close_ends p s t from writer length store a
 ends_of p s t from (note.Takeover writer part rest listed vector) a =
-    inl (record { same = λ w. kept_end s t from (note.Takeover writer part rest listed vector) w a (λ e. taken_end (nat_eq w writer.0 && rest) e e.status refl); reached = refl })
+    inl (record { same = λ w. kept_end s t from (note.Takeover writer part rest listed vector) w a (λ e. taken_end (nat_eq w writer.0 && rest) e e.status refl); reached = refl; closed = refl })
 ends_of p s t from (note.Undone writer recoverer vector) a =
     inl (record {
       same = λ w. kept_end s t from (note.Undone writer recoverer vector) w a (λ e. undone_end (nat_eq w writer.0 && is_live_at (at s.writers recoverer.0)) vector e e.status refl);
       reached = recovers_hard p writer (not (past.is_recovered (at s.writers writer.0)) && past.is_recovered (at t.writers writer.0));
+      closed = recovers_ended p writer (not (past.is_recovered (at s.writers writer.0)) && past.is_recovered (at t.writers writer.0));
     })
 ends_of p s t from (note.RequestFresh writer nth) a =
-    inl (record { same = λ w. kept_end s t from (note.RequestFresh writer nth) w a (λ e. fresh_end s (nat_eq w writer.0 && asks_next (Some e) nth) nth e); reached = refl })
-ends_of p s t from n a = inl (record { same = λ w. kept_end s t from n w a (λ e. refl); reached = refl })
+    inl (record { same = λ w. kept_end s t from (note.RequestFresh writer nth) w a (λ e. fresh_end s (nat_eq w writer.0 && asks_next (Some e) nth) nth e); reached = refl; closed = refl })
+ends_of p s t from n a = inl (record { same = λ w. kept_end s t from n w a (λ e. refl); reached = refl; closed = refl })

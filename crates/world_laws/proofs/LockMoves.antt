@@ -3,6 +3,9 @@ use Rattle.std.proofs.Common.{◌≡◌, ◌≤◌, ◌⊎◌, ℕ, List, [], �
 use Rattle.std.proofs.lemmas.List.{append-nil}
 use Rattle.std.specs.List.{AllByRecursion}
 use Rattle.std.specs.FinMap as fin
+use Rattle.std.specs.FinSet as sets
+use Rattle.std.specs.Prelude.{is_some}
+use Rattle.tm_data.specs.declared.transaction.Writer.{Writer}
 use Rattle.tm_data.specs.declared.log.Group.{Group}
 use Rattle.tm_base.specs.declared.message.Message.{Message}
 use Rattle.lock_model.specs.declared.writer.WriterEntry.{WriterEntry}
@@ -56,6 +59,7 @@ pub record LockMove (w : World) (b : Beside) (x : locks.State) (p : Past) : Type
   pub boots : (writer : ℕ) (e : WriterEntry) → at (locks_kept w).writers writer ≡ None → at x.writers writer ≡ Some e → (1 ≤ e.boot) × (e.boot ≤ or_zero (fin.get w.boots e.master))
   pub ends : (writer : ℕ) → EndMove w b x writer
   pub past : (writer : ℕ) → or_zero (fin.get p.hard writer) ≡ up_to (ended_at (at x.writers writer)) (durable_by (fin.get b.lives writer))
+  pub closed : (writer : Writer) → sets.contains p.ended writer ≡ is_some (ended_at (at x.writers writer.0))
 
 abbrev pub moves : World → Option locks.State → Disk Message → Past → List Message → World
 moves w lock disk past messages = record w { lock = lock; lock_disk = disk; past = past; sent = w.sent ++ messages }
@@ -202,6 +206,7 @@ lives_move w b lock d p messages move runs h = record {
   masters = λ number s is. let f = h.masters number s is in record { named = f.named; boot = f.boot; first = f.first; joined = joined_moves w b (kept d) p h move s s.life f.joined };
   ends = λ writer end is. end_fact w b (kept d) writer (h.ends writer) (move.ends writer) end is;
   past = move.past;
+  closed = move.closed;
 }
 
 -- ---- all of it
@@ -241,4 +246,5 @@ same_move still w b d same h =
       boots = λ writer e was is. absurd (cc (sym was ∙ is));
       ends = λ writer. inl refl;
       past = h.lives.past;
+      closed = h.lives.closed;
     })

@@ -6,6 +6,11 @@ use Rattle.std.specs.List.{AllByRecursion}
 use Rattle.std.specs.Ordering.{nat_cmp}
 use Rattle.std.specs.FinMap.{FinMap}
 use Rattle.std.specs.FinMap as fin
+use Rattle.std.specs.FinSet.{FinSet}
+use Rattle.std.specs.FinSet as sets
+use Rattle.std.specs.Prelude.{is_some}
+use Rattle.tm_data.specs.Orders.{writer_cmp}
+use Rattle.tm_data.specs.declared.transaction.Writer.{Writer}
 use Rattle.tm_base.specs.declared.message.Message.{Message}
 use Rattle.tm_base.specs.declared.message.Node.{Node}
 use Rattle.tm_base.specs.declared.message.Node.TheVariants.{Master, LogStore, PageStore, LockManager, Replica}
@@ -34,7 +39,7 @@ use Rattle.world_laws.specs.Invariant.{LockDeliveryHolds, LockStepHolds, LogsHol
 use Rattle.world_laws.specs.Kept.{IsOneOfThree, locks_kept, log_kept}
 use Rattle.world_laws.specs.Lives.{RunsAs}
 use Rattle.world_laws.specs.Messages.{MasterSays, Says, SaysFrom, View, view}
-use Rattle.world_laws.proofs.LockEnds.{Ends, OneEnd, ends_of}
+use Rattle.world_laws.proofs.LockEnds.{Ends, OneEnd, ends_of, ended_here, ended_other}
 use Rattle.world_laws.proofs.LockMoves.{EndMove, GivenEnd, LockMove, MoveLaws, kept, lock_holds, moves, same_move}
 use Rattle.world_laws.proofs.MarkLemmas.{reached_marked}
 use Rattle.world_laws.proofs.StoreLemmas.{get_here, set_other}
@@ -60,11 +65,11 @@ SaidBy v from (note.Release writer page epoch stamp tags vector) = epoch ≤ (pa
 SaidBy v (Master number) (note.Register boot) = (1 ≤ boot) × (boot ≤ v.boots number)
 SaidBy v from other = Unit {0}
 
-master_said : (v : View) (number : ℕ) (n : Note) → MasterSays v number n → SaidBy v (Master number) n
-master_said v number (note.Close writer length store) h = h
-master_said v number (note.Release writer page epoch stamp tags vector) h = h
-master_said v number (note.Register boot) h = h
-master_said v number n h = tt
+master_said : (v : View) (number : ℕ) (to : Node) (n : Note) → MasterSays v number to n → SaidBy v (Master number) n
+master_said v number to (note.Close writer length store) h = h
+master_said v number to (note.Release writer page epoch stamp tags vector) h = h
+master_said v number to (note.Register boot) h = h
+master_said v number to n h = tt
 
 store_said : (v : View) (number : ℕ) (n : Note) → store_told.NoteFact (v.stores number) v.most n → SaidBy v (LogStore number) n
 store_said v number (note.Close writer length store) h = absurd h
@@ -87,8 +92,8 @@ replica_said v number (note.Release writer page epoch stamp tags vector) h = abs
 replica_said v number n h = tt
 
 said : (v : View) (m : Message) (from : Node) → SaysFrom v m from → SaidBy v from m.note
-said v m (Master number) h = master_said v number m.note h
-said v m (LogStore number) h = store_said v number m.note h.note
+said v m (Master number) h = master_said v number m.to m.note h
+said v m (LogStore number) h = store_said v number m.note h.0.note
 said v m (PageStore number) h = page_said v number m.note h
 said v m LockManager h = lock_said v m.to m.stamp.0 m.note h.note
 said v m (Replica number) h = replica_said v number m.note h
@@ -151,6 +156,23 @@ past_moves w b t n h (inr one) writer = by (nat_eq writer one.writer.0) refl
         ∙ (ap or_zero (set_other w.past.hard one.writer.0 one.end.length writer apart)
         ∙ (h.lives.past writer ∙ ap (λ (o : Option LogEnd). up_to o (durable_by (fin.get b.lives writer))) (sym (one.others writer apart))))
 
+closed_moves : (w : World) (b : Beside) (t : State) (n : Note) → LogsHold w b → Ends w.past (locks_kept w) t n → (writer : Writer)
+    → sets.contains (managed_by w.past (locks_kept w) t n).ended writer ≡ is_some (ended_at (at t.writers writer.0))
+closed_moves w b t n h (inl free) writer =
+    ap (λ (ws : FinSet writer_cmp). sets.contains ws writer) free.closed
+    ∙ (h.lives.closed writer ∙ ap (λ (o : Option LogEnd). is_some o) (sym (free.same writer.0)))
+closed_moves w b t n h (inr one) writer = by (nat_eq writer.0 one.writer.0) refl
+  where
+    by : (c : Bool) → nat_eq writer.0 one.writer.0 ≡ c → sets.contains (managed_by w.past (locks_kept w) t n).ended writer ≡ is_some (ended_at (at t.writers writer.0))
+    by true is =
+        let same : writer.0 ≡ one.writer.0 = grind (arith, nat_tests) in
+        ap (λ (ws : FinSet writer_cmp). sets.contains ws writer) one.closed
+        ∙ (ended_here w.past.ended writer one.writer same ∙ sym (ap (λ (k : ℕ). is_some (ended_at (at t.writers k))) same ∙ ap (λ (o : Option LogEnd). is_some o) one.now))
+    by false is =
+        let apart : writer.0 ≢ one.writer.0 = λ same. absurd (let yes : nat_eq writer.0 one.writer.0 ≡ true = grind (arith, nat_tests) in cc (yes, is)) in
+        ap (λ (ws : FinSet writer_cmp). sets.contains ws writer) one.closed
+        ∙ (ended_other w.past.ended writer one.writer apart ∙ (h.lives.closed writer ∙ ap (λ (o : Option LogEnd). is_some o) (sym (one.others writer.0 apart))))
+
 -- The lock manager's own scalar is no matter.
 managed_heard : (p : Past) (s t : State) (stamp : ℕ) (n : Note) → managed_by p (heard s stamp) t n ≡ managed_by p s t n
 managed_heard p s t stamp (note.Close writer length store) = refl
@@ -158,7 +180,7 @@ managed_heard p s t stamp (note.Undone writer recoverer vector) = refl
 managed_heard p s t stamp n = refl
 
 unheard : (p : Past) (s t : State) (stamp : ℕ) (n : Note) → Ends p (heard s stamp) t n → Ends p s t n
-unheard p s t stamp n (inl free) = inl (record { same = free.same; reached = ap (λ (x : Past). x.hard) (sym (managed_heard p s t stamp n)) ∙ free.reached })
+unheard p s t stamp n (inl free) = inl (record { same = free.same; reached = ap (λ (x : Past). x.hard) (sym (managed_heard p s t stamp n)) ∙ free.reached; closed = ap (λ (x : Past). x.ended) (sym (managed_heard p s t stamp n)) ∙ free.closed })
 unheard p s t stamp n (inr one) = inr (record {
   writer = one.writer;
   end = one.end;
@@ -167,6 +189,7 @@ unheard p s t stamp n (inr one) = inr (record {
   now = one.now;
   others = one.others;
   reached = ap (λ (x : Past). x.hard) (sym (managed_heard p s t stamp n)) ∙ one.reached;
+  closed = ap (λ (x : Past). x.ended) (sym (managed_heard p s t stamp n)) ∙ one.closed;
 })
 
 abbrev next : World → Message → State
@@ -189,6 +212,7 @@ step_moves law w b m says h =
       boots = λ writer e was is. let new = does.new writer e was is in subst (SaidBy (view w b) (Master e.master)) new.asks (subst (λ (k : Node). SaidBy (view w b) k m.note) new.sender told);
       ends = end_moves w b m.from (next w m) w.past m.note h told ends;
       past = past_moves w b (next w m) m.note h ends;
+      closed = closed_moves w b (next w m) m.note h ends;
     }
 
 -- ---- its disk

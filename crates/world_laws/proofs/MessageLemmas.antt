@@ -52,13 +52,13 @@ front_numbered old new seq g f h = by (nat_eq seq 0) h
 at_most : (a b c : ℕ) → a ≤ b → b ≤ c → a ≤ c
 at_most a b c h k = omega (arith, h, k)
 
-master_stays : (old new : View) (number : ℕ) (n : Note) → ViewGoes old new → MasterSays old number n → MasterSays new number n
-master_stays old new number (note.Register boot) goes h = (h.0, at_most boot (old.boots number) (new.boots number) h.1 (goes.boots number))
-master_stays old new number (note.Append g) goes h = front_numbered (old.logs g.writer.0) (new.logs g.writer.0) g.seq g (goes.logs g.writer.0) h
-master_stays old new number (note.Stable writer seq) goes h = at_most seq (old.most writer.0) (new.most writer.0) h (goes.most writer.0)
-master_stays old new number (note.Close writer length store) goes h = (h.0, sealed_stays _ _ length ((goes.stores store).logs writer.0) h.1)
-master_stays old new number (note.Release writer page epoch stamp tags vector) goes h = at_most epoch _ _ h (goes.of_locks.pages page.0).epoch
-master_stays old new number n goes h = h
+master_stays : (old new : View) (number : ℕ) (to : Node) (n : Note) → ViewGoes old new → MasterSays old number to n → MasterSays new number to n
+master_stays old new number to (note.Register boot) goes h = (h.0, at_most boot (old.boots number) (new.boots number) h.1 (goes.boots number))
+master_stays old new number to (note.Append g) goes h = front_numbered (old.logs g.writer.0) (new.logs g.writer.0) g.seq g (goes.logs g.writer.0) h
+master_stays old new number to (note.Stable writer seq) goes h = at_most seq (old.most writer.0) (new.most writer.0) h (goes.most writer.0)
+master_stays old new number to (note.Close writer length store) goes h = (h.0, sealed_stays _ _ length ((goes.stores store).logs writer.0) h.1)
+master_stays old new number to (note.Release writer page epoch stamp tags vector) goes h = at_most epoch _ _ h (goes.of_locks.pages page.0).epoch
+master_stays old new number to n goes h = h
 
 pub record TellLaws : Type 0 where
   pub stores : (s t : LogStoreState) (most new_most : ℕ → ℕ) (m : Message) → store_goes.Goes s t → ((writer : ℕ) → most writer ≤ new_most writer)
@@ -66,8 +66,8 @@ pub record TellLaws : Type 0 where
   pub of_locks : (s t : locks.State) (m : Message) → lock_goes.Goes s t → lock_told.MessageFact s m → lock_told.MessageFact t m
 
 from_stays : TellLaws → (old new : View) (m : Message) (node : Node) → ViewGoes old new → SaysFrom old m node → SaysFrom new m node
-from_stays law old new m (Master number) goes h = master_stays old new number m.note goes h
-from_stays law old new m (LogStore number) goes h = law.stores (old.stores number) (new.stores number) old.most new.most m (goes.stores number) goes.most h
+from_stays law old new m (Master number) goes h = master_stays old new number m.to m.note goes h
+from_stays law old new m (LogStore number) goes h = (law.stores (old.stores number) (new.stores number) old.most new.most m (goes.stores number) goes.most h.0, h.1)
 from_stays law old new m (PageStore number) goes h = h
 from_stays law old new m LockManager goes h = law.of_locks old.of_locks new.of_locks m goes.of_locks h
 from_stays law old new m (Replica number) goes h = h
@@ -133,15 +133,15 @@ lock_group : (w : World) (b : Beside) (to : Node) (sent : ℕ) (n : Note) → lo
 lock_group w b to sent (note.Append g) h = absurd h
 lock_group w b to sent n h = tt
 
-master_marks : (w : World) (b : Beside) (number : ℕ) (n : Note) → MasterSays (view w b) number n → (writer mark : ℕ) → GivesMark n writer mark → mark ≤ hard w b writer
-master_marks w b number (note.Stable named seq) h writer mark gives = subst (λ k. mark ≤ hard w b k) gives.0 (subst (λ k. k ≤ hard w b named.0) gives.1 h)
-master_marks w b number (note.Closed named length store) h writer mark gives = absurd h
-master_marks w b number (note.Roster entries) h writer mark gives = absurd h
-master_marks w b number n h writer mark gives = absurd gives
+master_marks : (w : World) (b : Beside) (number : ℕ) (to : Node) (n : Note) → MasterSays (view w b) number to n → (writer mark : ℕ) → GivesMark n writer mark → mark ≤ hard w b writer
+master_marks w b number to (note.Stable named seq) h writer mark gives = subst (λ k. mark ≤ hard w b k) gives.0 (subst (λ k. k ≤ hard w b named.0) gives.1 h)
+master_marks w b number to (note.Closed named length store) h writer mark gives = absurd h
+master_marks w b number to (note.Roster entries) h writer mark gives = absurd h
+master_marks w b number to n h writer mark gives = absurd gives
 
-master_group : (w : World) (b : Beside) (number : ℕ) (n : Note) → MasterSays (view w b) number n → BringsGroup (log_by b) n
-master_group w b number (note.Append g) h = h
-master_group w b number n h = tt
+master_group : (w : World) (b : Beside) (number : ℕ) (to : Node) (n : Note) → MasterSays (view w b) number to n → BringsGroup (log_by b) n
+master_group w b number to (note.Append g) h = h
+master_group w b number to n h = tt
 
 store_brings : (logs : ℕ → List Group) (most : ℕ → ℕ) (s : LogStoreState) (n : Note) → store_told.NoteFact s most n → BringsOf logs most n
 store_brings logs most s (note.Ack writer seq) h = record { group = tt; marks = λ writer mark gives. absurd gives }
@@ -165,8 +165,8 @@ replica_brings logs most (note.Want writer) h = record { group = tt; marks = λ 
 replica_brings logs most n h = absurd h
 
 from_brings : (w : World) (b : Beside) (m : Message) (node : Node) → SaysFrom (view w b) m node → BringsOf (log_by b) (hard w b) m.note
-from_brings w b m (Master number) h = record { group = master_group w b number m.note h; marks = master_marks w b number m.note h }
-from_brings w b m (LogStore number) h = store_brings (log_by b) (hard w b) ((view w b).stores number) m.note h.note
+from_brings w b m (Master number) h = record { group = master_group w b number m.to m.note h; marks = master_marks w b number m.to m.note h }
+from_brings w b m (LogStore number) h = store_brings (log_by b) (hard w b) ((view w b).stores number) m.note h.0.note
 from_brings w b m (PageStore number) h = page_brings (log_by b) (hard w b) m.note h
 from_brings w b m LockManager h = record { group = lock_group w b m.to m.stamp.0 m.note h.note; marks = lock_marks w b m.to m.stamp.0 m.note h.note }
 from_brings w b m (Replica number) h = replica_brings (log_by b) (hard w b) m.note h

@@ -20,9 +20,9 @@ use Rattle.world_laws.specs.Beside.{Beside, acked_by, log_by}
 use Rattle.world_laws.specs.Invariant.{LogsHold, StoreStepHolds}
 use Rattle.world_laws.specs.Kept.{end_of, hard, log_kept}
 use Rattle.world_laws.specs.LogStores.{DiskFacts, LogStoreFacts, RunsBy, RunsFrom, StoresHold}
-use Rattle.world_laws.specs.Messages.{AllSay, Says, ViewGoes, view}
+use Rattle.world_laws.specs.Messages.{AllSay, Says, SealFrom, ViewGoes, view}
 use Rattle.world_laws.proofs.StoreLemmas.{At, each_at, get_here, gone_here, gone_other, set_other}
-use Rattle.world_laws.proofs.StoreMessages.{SentLaws, all_stay, both, disks_go, each, lives_stay, one_disk, one_says}
+use Rattle.world_laws.proofs.StoreMessages.{SentLaws, all_both, all_stay, both, disks_go, each, lives_stay, one_disk, one_says}
 
 abbrev with_stores : World → FinMap nat_cmp LogStoreState → FinMap nat_cmp (Disk Message) → List Message → World
 with_stores w stores disks messages = record w { log = stores; log_disk = disks; sent = w.sent ++ messages }
@@ -110,8 +110,9 @@ ticks law told w b number h (Some s) is =
     let runs : RunsFrom (log_by b) (hard w b) (log_kept w number) s = here in
     let t = with_stores w w.log w.log_disk (ticked s).1 in
     holds_with law w b w.log w.log_disk (ticked s).1 (λ n. law.of_store.still (log_kept w n)) h.stores
-    (each (store_told.MessageFact s (hard w b)) (Says (view t b))
-    (λ x. one_says law (view t b) number s x (sym runs.same.number ∙ (h.stores number).disk.named) (law.of_store.same_goes s (log_kept w number) runs.same)) (ticked s).1 (told s (hard w b))) h
+    (each (λ (x : Message). store_told.MessageFact s (hard w b) x × SealFrom number x.note) (Says (view t b))
+    (λ x f. one_says law (view t b) number s x (sym runs.same.number ∙ (h.stores number).disk.named) (law.of_store.same_goes s (log_kept w number) runs.same) f.0 f.1) (ticked s).1
+    (all_both (store_told.MessageFact s (hard w b)) (λ (x : Message). SealFrom number x.note) (ticked s).1 (told s (hard w b)) (tt, tt))) h
 
 -- ---- each of them
 

@@ -22,6 +22,7 @@ pub record LogsHold (w : World) (b : Beside) : Type 0 where
 abbrev pub StoreDeliveryHolds : Type 0
 StoreDeliveryHolds =
     (w : World) (b : Beside) (number : ℕ) (m : Message)
+    → m.to ≡ LogStore number
     → Says (view w b) m
     → LogsHold w b
     → LogsHold (delivers_to w m (LogStore number)).world b

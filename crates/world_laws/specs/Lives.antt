@@ -1,9 +1,11 @@
 -- What holds of the masters, of every life that joined, and of the lock manager that numbers them.
-use Rattle.std.specs.Prelude.{◌≡◌, ◌≤◌, ℕ, List, [], length}
+use Rattle.std.specs.Prelude.{◌≡◌, ◌≤◌, ℕ, List, [], length, is_some}
 use Rattle.std.specs.FinMap as fin
+use Rattle.std.specs.FinSet as sets
 use Rattle.std.specs.declared.option.Option.{Option}
 use Rattle.std.specs.declared.option.Option.TheVariants.{None, Some}
 use Rattle.tm_data.specs.declared.log.Group.{Group}
+use Rattle.tm_data.specs.declared.transaction.Writer.{Writer}
 use Rattle.lock_model.specs.declared.writer.WriterEntry.{WriterEntry}
 use Rattle.tm_base.specs.declared.message.Message.{Message}
 use Rattle.tm_base.specs.declared.message.Node.TheVariants.{LockManager}
@@ -109,6 +111,8 @@ pub record LivesHold (w : World) (b : Beside) : Type 0 where
   pub ends : (writer : ℕ) (end : LogEnd) → end_of w writer ≡ Some end → EndFact (durable_by (fin.get b.lives writer)) end
   -- what is kept of the run has the same number of each writer
   pub past : (writer : ℕ) → or_zero (fin.get w.past.hard writer) ≡ hard w b writer
+  -- and the same writers' logs have an end there
+  pub closed : (writer : Writer) → sets.contains w.past.ended writer ≡ is_some (end_of w writer.0)
 
 -- ---- the lock manager's own steps
 

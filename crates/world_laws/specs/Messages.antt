@@ -13,6 +13,7 @@ use Rattle.lock_model.specs.State as locks
 use Rattle.lock_model.specs.State.{page_in}
 use Rattle.lock_model.specs.Goes as lock_goes
 use Rattle.lock_model.specs.Told as lock_told
+use Rattle.master_model.specs.Told.{IsLogStore}
 use Rattle.store_model.specs.LogState.{LogStoreState, log_of, numbered}
 use Rattle.store_model.specs.LogFacts.{IsSealedWith}
 use Rattle.store_model.specs.LogGoes as store_goes
@@ -46,31 +47,36 @@ view w b = record { stores = log_kept w; of_locks = locks_kept w; logs = log_by 
 -- ---- what they say
 
 -- By the kind, of a master's message: a boot number that was given out; a group of its writer's log, at its number; groups
--- that stand for ever; an end at which the named log store is sealed; an epoch to which the page has come. Of the others
--- nothing is said here, and no other is sent by a master.
-abbrev pub MasterSays : View → ℕ → Note → Type 0
-MasterSays v number (note.Register boot) = (1 ≤ boot) × (boot ≤ v.boots number)
-MasterSays v number (note.Append g) = numbered (v.logs g.writer.0) g.seq ≡ Some g
-MasterSays v number (note.Stable writer seq) = seq ≤ v.most writer.0
-MasterSays v number (note.Close writer length store) = IsOneOfThree store × IsSealedWith (log_of (v.stores store) writer.0) length
-MasterSays v number (note.Release writer page epoch stamp tags vector) = epoch ≤ (page_in v.of_locks page.0).epoch
-MasterSays v number (note.Request writer page) = Unit {0}
-MasterSays v number (note.RequestFresh writer nth) = Unit {0}
-MasterSays v number (note.ReadPage page) = Unit {0}
-MasterSays v number (note.Ask txn master) = Unit {0}
-MasterSays v number (note.Fate txn ended vector) = Unit {0}
-MasterSays v number (note.Seal writer) = Unit {0}
-MasterSays v number (note.Fetch writer next) = Unit {0}
-MasterSays v number (note.Takeover writer part rest listed vector) = Unit {0}
-MasterSays v number (note.Undone writer recoverer vector) = Unit {0}
-MasterSays v number (note.Want writer) = Unit {0}
-MasterSays v number other = ⊥
+-- that stand for ever; an end at which the named log store is sealed; an epoch to which the page has come; and a seal goes to one
+-- of the three log stores. Of the others nothing is said here, and no other is sent by a master.
+abbrev pub MasterSays : View → ℕ → Node → Note → Type 0
+MasterSays v number to (note.Register boot) = (1 ≤ boot) × (boot ≤ v.boots number)
+MasterSays v number to (note.Append g) = numbered (v.logs g.writer.0) g.seq ≡ Some g
+MasterSays v number to (note.Stable writer seq) = seq ≤ v.most writer.0
+MasterSays v number to (note.Close writer length store) = IsOneOfThree store × IsSealedWith (log_of (v.stores store) writer.0) length
+MasterSays v number to (note.Release writer page epoch stamp tags vector) = epoch ≤ (page_in v.of_locks page.0).epoch
+MasterSays v number to (note.Request writer page) = Unit {0}
+MasterSays v number to (note.RequestFresh writer nth) = Unit {0}
+MasterSays v number to (note.ReadPage page) = Unit {0}
+MasterSays v number to (note.Ask txn master) = Unit {0}
+MasterSays v number to (note.Fate txn ended vector) = Unit {0}
+MasterSays v number to (note.Seal writer) = IsLogStore to
+MasterSays v number to (note.Fetch writer next) = Unit {0}
+MasterSays v number to (note.Takeover writer part rest listed vector) = Unit {0}
+MasterSays v number to (note.Undone writer recoverer vector) = Unit {0}
+MasterSays v number to (note.Want writer) = Unit {0}
+MasterSays v number to other = ⊥
 
 -- A page store's and a replica's are of the kinds that these nodes send. A log store's and the lock manager's messages say
 -- what these nodes' own laws say of them.
+-- So the length of a sealed log is named by one of the three.
+abbrev pub SealFrom : ℕ → Note → Type 0
+SealFrom number (note.SealedAt writer length) = IsOneOfThree number
+SealFrom number other = Unit {0}
+
 abbrev pub SaysFrom : View → Message → Node → Type 0
-SaysFrom v m (Master number) = MasterSays v number m.note
-SaysFrom v m (LogStore number) = store_told.MessageFact (v.stores number) v.most m
+SaysFrom v m (Master number) = MasterSays v number m.to m.note
+SaysFrom v m (LogStore number) = store_told.MessageFact (v.stores number) v.most m × SealFrom number m.note
 SaysFrom v m (PageStore number) = IsPageNote m.note
 SaysFrom v m LockManager = lock_told.MessageFact v.of_locks m
 SaysFrom v m (Replica number) = IsQuestion m.note
@@ -106,11 +112,17 @@ StoreDeliveryGoes =
     → StoresHold w b
     → ViewGoes (view w b) (view (delivers_to w m (LogStore number)).world b)
 
--- And all that was sent says what is so, with what the delivery sends.
+-- And all that was sent says what is so, with what the delivery sends, if no other log store than one of the three is asked
+-- to seal a log.
+abbrev pub SealCause : ℕ → Note → Type 0
+SealCause number (note.Seal writer) = IsOneOfThree number
+SealCause number other = Unit {0}
+
 abbrev pub StoreDeliverySays : Type 0
 StoreDeliverySays =
     (w : World) (b : Beside) (number : ℕ) (m : Message)
     → BringsOf (log_by b) (hard w b) m.note
+    → SealCause number m.note
     → StoresHold w b
     → AllSay (view w b) w.sent
     → AllSay (view (delivers_to w m (LogStore number)).world b) (delivers_to w m (LogStore number)).world.sent

@@ -29,6 +29,7 @@ pub fn it_holds_at_the_beginning()
     log_laws::going_stands_still();
     log_laws::going_is_transitive();
     log_laws::facts_of_messages_stay();
+    log_laws::sent_messages_say_what_is();
     log_laws::sent_messages_are_true();
     log_laws::longer_logs_have_it();
     lock_laws::facts_hold_at_the_start();

@@ -42,6 +42,7 @@ pub fn a_delivery_to_a_log_store_keeps_what_was_said()
     log_laws::going_stands_still();
     log_laws::going_is_transitive();
     log_laws::facts_of_messages_stay();
+    log_laws::sent_messages_say_what_is();
     log_laws::sent_messages_are_true();
     lock_laws::going_stands_still();
     lock_laws::facts_of_messages_stay();
@@ -62,6 +63,7 @@ pub fn a_log_store_keeps_it_over_stops()
     log_laws::going_stands_still();
     log_laws::going_is_transitive();
     log_laws::facts_of_messages_stay();
+    log_laws::sent_messages_say_what_is();
     log_laws::sent_messages_are_true();
     log_laws::messages_of_ticks_are_true();
     lock_laws::going_stands_still();

@@ -24,6 +24,7 @@ returns c =
         };
         tells = tells;
         lock_still = c.going_stands_still-2.ensures;
+        is = c.sent_messages_say_what_is.ensures;
         sent = c.sent_messages_are_true.ensures;
       };
       of_locks = record {

@@ -16,6 +16,7 @@ returns-clause-goes c = store_delivery_goes (record {
   };
   tells = record { stores = c.facts_of_messages_stay.ensures; of_locks = c.facts_of_messages_stay-2.ensures };
   lock_still = c.going_stands_still-2.ensures;
+  is = c.sent_messages_say_what_is.ensures;
   sent = c.sent_messages_are_true.ensures;
 })
 
@@ -34,6 +35,7 @@ returns-clause-says c = store_delivery_says (record {
   };
   tells = record { stores = c.facts_of_messages_stay.ensures; of_locks = c.facts_of_messages_stay-2.ensures };
   lock_still = c.going_stands_still-2.ensures;
+  is = c.sent_messages_say_what_is.ensures;
   sent = c.sent_messages_are_true.ensures;
 })
 
@@ -52,5 +54,6 @@ returns-clause-holds c = store_delivery_holds (record {
   };
   tells = record { stores = c.facts_of_messages_stay.ensures; of_locks = c.facts_of_messages_stay-2.ensures };
   lock_still = c.going_stands_still-2.ensures;
+  is = c.sent_messages_say_what_is.ensures;
   sent = c.sent_messages_are_true.ensures;
 })

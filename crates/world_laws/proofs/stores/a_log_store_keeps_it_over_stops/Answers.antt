@@ -16,5 +16,6 @@ returns c = store_step_holds (record {
   };
   tells = record { stores = c.facts_of_messages_stay.ensures; of_locks = c.facts_of_messages_stay-2.ensures };
   lock_still = c.going_stands_still-2.ensures;
+  is = c.sent_messages_say_what_is.ensures;
   sent = c.sent_messages_are_true.ensures;
 }) c.messages_of_ticks_are_true.ensures
