@@ -10,3 +10,8 @@ mod LockMoves
 mod LockSteps
 mod ApartLemmas
 mod BeginLemmas
+mod MasterMoves
+mod MasterTold
+mod PastLemmas
+mod MasterSteps
+mod MasterDeliveries

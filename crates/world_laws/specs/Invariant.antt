@@ -1,14 +1,17 @@
 -- The first part of the invariant of the world: messages, logs and disks.
 use Rattle.tm_base.specs.declared.message.Message.{Message}
 use Rattle.tm_base.specs.declared.message.Node.{Node}
-use Rattle.tm_base.specs.declared.message.Node.TheVariants.{LogStore, PageStore, LockManager, Replica}
+use Rattle.tm_base.specs.declared.message.Node.TheVariants.{Master, LogStore, PageStore, LockManager, Replica}
 use Rattle.std.specs.Prelude.{◌≡◌, ℕ}
 use Rattle.world_model.specs.World.{World, stopped}
+use Rattle.std.specs.declared.option.Option.TheVariants.{Some}
+use Rattle.tm_base.specs.declared.command.Command.{Command}
 use Rattle.tm_base.specs.declared.step.Step.{Step}
 use Rattle.tm_base.specs.declared.step.Step.TheVariants as step
 use Rattle.world_model.specs.Nodes.{delivers_to}
-use Rattle.world_model.specs.Step.{begin, world_step}
-use Rattle.world_laws.specs.Beside.{Beside, nothing}
+use Rattle.world_model.specs.Step.{begin, commands, world_step}
+use Rattle.master_model.specs.Facts.{Brings}
+use Rattle.world_laws.specs.Beside.{Beside, nothing, with_moved}
 use Rattle.world_laws.specs.LogStores.{StoresHold}
 use Rattle.world_laws.specs.Lives.{LivesHold}
 use Rattle.world_laws.specs.Messages.{AllSay, Says, view}
@@ -86,6 +89,28 @@ ApartDeliveryHolds = (w : World) (b : Beside) (m : Message) (node : Node) → Is
 
 abbrev pub ApartStepHolds : Type 0
 ApartStepHolds = (w : World) (b : Beside) (s : Step) → IsApart s → LogsHold w b → LogsHold (world_step w s).world b
+
+-- ---- masters
+
+-- A message that says what is so, and that the format of messages can spell, delivered to the master that it names; a
+-- command; and a tick: each keeps all of it, with what is kept beside the world after the step.
+abbrev pub MasterDeliveryHolds : Type 0
+MasterDeliveryHolds =
+    (w : World) (b : Beside) (number : ℕ) (m : Message)
+    → m.to ≡ Master number
+    → Says (view w b) m
+    → Brings m
+    → LogsHold w b
+    → LogsHold (delivers_to w m (Master number)).world (with_moved b w (delivers_to w m (Master number)).world (Some number))
+
+abbrev pub CommandHolds : Type 0
+CommandHolds =
+    (w : World) (b : Beside) (number session : ℕ) (asked : Command)
+    → LogsHold w b
+    → LogsHold (commands w number session asked).world (with_moved b w (commands w number session asked).world (Some number))
+
+abbrev pub MasterTickHolds : Type 0
+MasterTickHolds = (w : World) (b : Beside) (number : ℕ) → LogsHold w b → LogsHold (world_step w (step.Tick (Master number))).world b
 
 -- ---- the beginning
 

@@ -5,5 +5,6 @@ pub mod apart;
 pub mod begin;
 pub mod frame;
 pub mod locks;
+pub mod masters;
 pub mod messages;
 pub mod stores;
