@@ -15,3 +15,4 @@ mod MasterTold
 mod PastLemmas
 mod MasterSteps
 mod MasterDeliveries
+mod RunLemmas

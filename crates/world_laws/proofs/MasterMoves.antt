@@ -43,7 +43,7 @@ up_rises None a c h = h
 up_rises (Some end) a c h = at_itself end.length
 
 -- What is durable is held by each log store, so it is within an end of the log.
-within : (groups : ℕ) (reached : ℕ) → (1 ≤ reached → reached ≤ groups) → reached ≤ groups
+pub within : (groups : ℕ) (reached : ℕ) → (1 ≤ reached → reached ≤ groups) → reached ≤ groups
 within groups reached h = by (nat_le 1 reached) refl
   where
     by : (c : Bool) → nat_le 1 reached ≡ c → reached ≤ groups

@@ -42,7 +42,7 @@ front_get [] more k g h = absurd (cc h)
 front_get (x ∷ xs) more zero g h = h
 front_get (x ∷ xs) more (suc k) g h = front_get xs more k g h
 
-front_numbered : (old new : List Group) (seq : ℕ) (g : Group) → IsFront old new → numbered old seq ≡ Some g → numbered new seq ≡ Some g
+pub front_numbered : (old new : List Group) (seq : ℕ) (g : Group) → IsFront old new → numbered old seq ≡ Some g → numbered new seq ≡ Some g
 front_numbered old new seq g f h = by (nat_eq seq 0) h
   where
     by : (b : Bool) → cond b None (slice_get old (seq - 1)) ≡ Some g → cond b None (slice_get new (seq - 1)) ≡ Some g

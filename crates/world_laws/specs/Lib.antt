@@ -5,3 +5,4 @@ pub mod LogStores
 pub mod Lives
 pub mod Messages
 pub mod Invariant
+pub mod Runs

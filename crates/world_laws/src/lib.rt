@@ -7,4 +7,5 @@ pub mod frame;
 pub mod locks;
 pub mod masters;
 pub mod messages;
+pub mod runs;
 pub mod stores;
