@@ -5,6 +5,7 @@
 //! A point is all that was applied at a moment: a causally closed cut of whole groups. Reads are answered there.
 #![tactic(auto)]
 
+pub mod laws;
 mod line;
 
 pub use line::{EndMark, Line};

@@ -9,3 +9,4 @@ mod ReadLemmas
 mod StartLemmas
 mod StateLemmas
 mod ToldLemmas
+mod KindLemmas

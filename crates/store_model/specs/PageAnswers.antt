@@ -87,3 +87,18 @@ pub record PageMessageIs (logs : ℕ → List Group) (s : PageStoreState) (asked
   pub stamp : m.stamp.0 ≡ s.scalar
   pub answers : PageAnswers asked m.note
   pub page : PageIsSo logs m.note
+
+-- ---- which kinds are sent
+
+-- A page store sends pages, says that a record of one is missing, and asks for groups, rosters and scalars.
+abbrev pub IsPageNote : Note → Type 0
+IsPageNote (note.PageIs image) = Unit {0}
+IsPageNote (note.Missing page stamp) = Unit {0}
+IsPageNote (note.Fetch writer next) = Unit {0}
+IsPageNote (note.Want writer) = Unit {0}
+IsPageNote other = ⊥
+
+-- A message of this page store's, of one of these kinds.
+pub record IsSentBy (s : PageStoreState) (m : Message) : Type 0 where
+  pub sender : m.from ≡ PageStore s.number
+  pub kind : IsPageNote m.note

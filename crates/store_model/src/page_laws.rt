@@ -10,8 +10,9 @@ ghost use Rattle.store_model.specs.LogGoes.{IsFront};
 ghost use Rattle.store_model.specs.PageState.{PageStoreState, is_own, next_of, start};
 ghost use Rattle.store_model.specs.PageMoves.{IsDone, RosterIs};
 ghost use Rattle.store_model.specs.PageStep.{stepped, ticked};
-ghost use Rattle.store_model.specs.PageReads.{of_fault, read_at, read_version};
-ghost use Rattle.store_model.specs.PageAnswers.{AreJoined, IsLevel, PageIsSo, PageMessageIs, ReadIs, WasMade};
+ghost use Rattle.store_model.specs.PageReads.{of_fault, read_at, read_version, wants};
+ghost use Rattle.store_model.specs.PageAnswers.{AreJoined, IsLevel, IsSentBy, PageIsSo, PageMessageIs, ReadIs, WasMade};
+ghost use Rattle.store_model.specs.declared.refusal.ReadRefusal.{ReadRefusal};
 ghost use Rattle.store_model.specs.declared.refusal.ReadRefusal.TheVariants.{Missing};
 ghost use Rattle.tm_base.specs.declared.message.Note.{Note};
 ghost use Rattle.store_model.specs.PageWhole.{IsWhole, part_of, with_part};
@@ -173,4 +174,13 @@ pub fn sent_pages_are_of_all_records()
         → WasMade logs image
         → IsHistory logs image.page.0 links
         → version image.page links image.stamp.0 ≡ Ok image }
+{}
+
+/// A page store sends four kinds of message, in its own name: pages, that a record of one is missing, and questions for
+/// groups, and for rosters and scalars; after a message, on a tick, and where a page at a scalar was refused. Refused is
+/// a page store that passes groups on.
+pub fn four_kinds_are_sent()
+    ensures step { (s : PageStoreState) (m : Message) → AllByRecursion (IsSentBy s) (stepped s m).1 }
+    ensures tick { (s : PageStoreState) → AllByRecursion (IsSentBy s) (ticked s).1 }
+    ensures refused { (s : PageStoreState) (why : ReadRefusal) (stamp : ℕ) → AllByRecursion (IsSentBy s) (wants s why stamp) }
 {}

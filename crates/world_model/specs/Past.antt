@@ -52,9 +52,9 @@ abbrev pub machine_steps : Past → List MachineStep → Past
 machine_steps p [] = p
 machine_steps p (s ∷ ss) = machine_steps (machine_step p s) ss
 
--- A closed writer adds no event, and its number isn't raised.
+-- A writer whose log has an end adds no event, and its number isn't raised.
 abbrev pub is_closed : Past → Writer → Bool
-is_closed p writer = sets.contains p.machine.closed writer
+is_closed p writer = sets.contains p.ended writer
 
 abbrev pub with_events : Past → Writer → List Event → Past
 with_events p writer events = cond (is_closed p writer) p (record p { events = p.events ++ events })
@@ -157,7 +157,7 @@ puts_upto writer most events = map put_key (sets.items (sets.from_list {R = put_
 abbrev pub closes : Past → Writer → ℕ → Past
 closes p writer most =
     let new = machine_step p (Close writer (ends_upto writer.0 most p.events) (puts_upto writer.0 most p.events)) in
-    record new { events = after_close writer.0 most p.events; hard = fin.insert p.hard writer.0 most }
+    record new { events = after_close writer.0 most p.events; hard = fin.insert p.hard writer.0 most; ended = sets.insert p.ended writer }
 
 abbrev pub recovers : Past → Writer → Past
 recovers p writer = machine_step p (Recover writer)

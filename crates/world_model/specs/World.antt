@@ -3,6 +3,9 @@ use Rattle.std.specs.Prelude.{ℕ, ◌+◌, Bool, List, [], ◌∷◌, ◌++◌,
 use Rattle.std.specs.Ordering.{nat_cmp}
 use Rattle.std.specs.FinMap.{FinMap}
 use Rattle.std.specs.FinMap as fin
+use Rattle.std.specs.FinSet.{FinSet}
+use Rattle.std.specs.FinSet as sets
+use Rattle.tm_data.specs.Orders.{writer_cmp}
 use Rattle.std.specs.declared.option.Option.{Option}
 use Rattle.std.specs.declared.option.Option.TheVariants.{None, Some}
 use Rattle.tm_data.specs.declared.image.Image.{Image}
@@ -31,13 +34,14 @@ pub record PageAnswer : Type 0 where
   pub image : Image
 
 -- What is kept of the run: the event list, the plain machine beside it and the steps that it took, the greatest durable
--- number of each writer, or, once the writer is closed, the length of its log; the pages that were answered, and the points
--- that were published.
+-- number of each writer, or, once its log has an end, the length; the writers whose log has one; the pages that were
+-- answered, and the points that were published.
 pub record Past : Type 0 where
   pub events : List Event
   pub machine : machine.State
   pub steps : List MachineStep
   pub hard : FinMap nat_cmp ℕ
+  pub ended : FinSet writer_cmp
   pub answers : List PageAnswer
   pub points : List PointMark
 
@@ -62,7 +66,7 @@ pub record World : Type 0 where
   pub past : Past
 
 abbrev pub no_past : Past
-no_past = record { events = []; machine = machine.empty; steps = []; hard = fin.empty; answers = []; points = [] }
+no_past = record { events = []; machine = machine.empty; steps = []; hard = fin.empty; ended = sets.empty; answers = []; points = [] }
 
 -- A world of so many nodes, all of them stopped, with empty disks.
 abbrev pub stopped : ℕ → ℕ → ℕ → World

@@ -1,0 +1,185 @@
+-- Every step and every run keeps the invariant; and what follows.
+use Rattle.std.proofs.Common.{◌≡◌, ◌-◌, ◌+◌, ℕ, zero, suc, List, [], ◌∷◌, length, slice_get, Option, Some, None, refl, sym, subst, false}
+use Rattle.std.specs.List.{AllByRecursion}
+use Rattle.std.specs.FinMap as fin
+use Rattle.tm_base.specs.declared.message.Message.{Message}
+use Rattle.tm_base.specs.declared.message.Node.{Node}
+use Rattle.tm_base.specs.declared.message.Node.TheVariants.{Master, LogStore, PageStore, LockManager, Replica}
+use Rattle.tm_base.specs.declared.message.Note.{Note}
+use Rattle.tm_base.specs.declared.message.Note.TheVariants as note
+use Rattle.tm_base.specs.declared.message.RosterEntry.{RosterEntry}
+use Rattle.tm_base.specs.declared.message.WriterState.{WriterState}
+use Rattle.tm_base.specs.declared.message.WriterState.TheVariants as told
+use Rattle.tm_base.specs.declared.step.Step.{Step}
+use Rattle.tm_base.specs.declared.step.Step.TheVariants as step
+use Rattle.lock_model.specs.declared.writer.WriterEntry.{WriterEntry}
+use Rattle.lock_model.specs.declared.writer.WriterStatus.{WriterStatus}
+use Rattle.lock_model.specs.declared.writer.WriterStatus.TheVariants.{Live, Closed, Recovered}
+use Rattle.lock_model.specs.Runs as lock_runs
+use Rattle.lock_model.specs.Runs.{LogEnd, end_of as end_in, ended_at, told_of}
+use Rattle.lock_model.specs.State.{at}
+use Rattle.lock_model.specs.Told as lock_told
+use Rattle.lock_model.specs.Told.{RosterFact, StateFact}
+use Rattle.store_model.specs.LogState.{log_of}
+use Rattle.store_model.specs.LogTold as store_told
+use Rattle.store_model.specs.PageState.{is_live}
+use Rattle.world_model.specs.World.{World}
+use Rattle.world_model.specs.Nodes.{delivers_some, delivers_to}
+use Rattle.world_model.specs.Step.{begin, run, world_step}
+use Rattle.world_laws.specs.Beside.{Beside, after_step, after_steps, durable_by, log_by, nothing, receiver, with_moved}
+use Rattle.world_laws.specs.Invariant.{ApartDeliveryHolds, ApartStepHolds, BeginHolds, CommandHolds, LockDeliveryHolds, LockStepHolds, LogsHold, MasterDeliveryHolds, MasterTickHolds, StoreDeliveryHolds, StoreStepHolds}
+use Rattle.world_laws.specs.Kept.{hard, locks_kept, log_kept}
+use Rattle.world_laws.specs.Messages.{MasterSays, Says, SaysFrom, view}
+use Rattle.world_laws.specs.Runs.{AllTell, Always, BringAll, BringsSome, DurableIsHeld, ListsAreFronts, StepHolds, Tells, WritersDiffer}
+use Rattle.world_laws.proofs.ApartLemmas.{nothing_holds}
+use Rattle.world_laws.proofs.MarkLemmas.{reached_marked}
+use Rattle.world_laws.proofs.MasterMoves.{within}
+use Rattle.world_laws.proofs.MessageLemmas.{front_numbered}
+
+-- ---- every step
+
+-- What each kind of step keeps, as the laws say.
+pub record StepLaws : Type 0 where
+  pub apart_delivery : ApartDeliveryHolds
+  pub apart_step : ApartStepHolds
+  pub lock_delivery : LockDeliveryHolds
+  pub lock_step : LockStepHolds
+  pub store_delivery : StoreDeliveryHolds
+  pub store_step : StoreStepHolds
+  pub master_delivery : MasterDeliveryHolds
+  pub command : CommandHolds
+  pub master_tick : MasterTickHolds
+
+pub sent_before : {X : Type 0} (P : X → Type 0) (xs : List X) (i : ℕ) (x : X) → AllByRecursion P xs → slice_get xs i ≡ Some x → P x
+sent_before P [] i x h is = absurd (cc is)
+sent_before P (y ∷ ys) zero x h is = let one : y ≡ x = cc is in subst P one h.0
+sent_before P (y ∷ ys) (suc i) x h is = sent_before P ys i x h.1 is
+
+delivered_to : StepLaws → (w : World) (b : Beside) (m : Message) → Says (view w b) m → BringsSome (Some m) → LogsHold w b → (to : Node) → m.to ≡ to
+    → LogsHold (delivers_to w m to).world (with_moved b w (delivers_to w m to).world (receiver (Some (record m { to = to }))))
+delivered_to law w b m says brings h (Master number) is = law.master_delivery w b number m is says (brings number is) h
+delivered_to law w b m says brings h (LogStore number) is = law.store_delivery w b number m is says h
+delivered_to law w b m says brings h (PageStore number) is = law.apart_delivery w b m (PageStore number) tt h
+delivered_to law w b m says brings h LockManager is = law.lock_delivery w b m says h
+delivered_to law w b m says brings h (Replica number) is = law.apart_delivery w b m (Replica number) tt h
+
+delivered : StepLaws → (w : World) (b : Beside) (number : ℕ) → (o : Option Message) → slice_get w.sent (number - 1) ≡ o → BringsSome o → LogsHold w b
+    → LogsHold (delivers_some w o).world (with_moved b w (delivers_some w o).world (receiver o))
+delivered law w b number None is brings h = nothing_holds w b h
+delivered law w b number (Some m) is brings h = delivered_to law w b m (sent_before (Says (view w b)) w.sent (number - 1) m h.sent is) brings h m.to refl
+
+pub step_holds : StepLaws → StepHolds
+step_holds law w b (step.Do number session asked) brings h = law.command w b number session asked h
+step_holds law w b (step.Deliver number) brings h = delivered law w b number (slice_get w.sent (number - 1)) refl brings h
+step_holds law w b (step.Lose number) brings h = law.apart_step w b (step.Lose number) tt h
+step_holds law w b (step.Tick (Master number)) brings h = law.master_tick w b number h
+step_holds law w b (step.Tick (LogStore number)) brings h = law.store_step w b number (step.Tick (LogStore number)) refl h
+step_holds law w b (step.Tick (PageStore number)) brings h = law.apart_step w b (step.Tick (PageStore number)) tt h
+step_holds law w b (step.Tick LockManager) brings h = law.lock_step w b (step.Tick LockManager) tt h
+step_holds law w b (step.Tick (Replica number)) brings h = law.apart_step w b (step.Tick (Replica number)) tt h
+step_holds law w b (step.Stop (Master number) mode) brings h = law.apart_step w b (step.Stop (Master number) mode) tt h
+step_holds law w b (step.Stop (LogStore number) mode) brings h = law.store_step w b number (step.Stop (LogStore number) mode) refl h
+step_holds law w b (step.Stop (PageStore number) mode) brings h = law.apart_step w b (step.Stop (PageStore number) mode) tt h
+step_holds law w b (step.Stop LockManager mode) brings h = law.lock_step w b (step.Stop LockManager mode) tt h
+step_holds law w b (step.Stop (Replica number) mode) brings h = law.apart_step w b (step.Stop (Replica number) mode) tt h
+step_holds law w b (step.Start (Master number)) brings h = law.apart_step w b (step.Start (Master number)) tt h
+step_holds law w b (step.Start (LogStore number)) brings h = law.store_step w b number (step.Start (LogStore number)) refl h
+step_holds law w b (step.Start (PageStore number)) brings h = law.apart_step w b (step.Start (PageStore number)) tt h
+step_holds law w b (step.Start LockManager) brings h = law.lock_step w b (step.Start LockManager) tt h
+step_holds law w b (step.Start (Replica number)) brings h = law.apart_step w b (step.Start (Replica number)) tt h
+step_holds law w b (step.Fail (Master number) call mode) brings h = law.apart_step w b (step.Fail (Master number) call mode) tt h
+step_holds law w b (step.Fail (LogStore number) call mode) brings h = law.store_step w b number (step.Fail (LogStore number) call mode) refl h
+step_holds law w b (step.Fail (PageStore number) call mode) brings h = law.apart_step w b (step.Fail (PageStore number) call mode) tt h
+step_holds law w b (step.Fail LockManager call mode) brings h = law.lock_step w b (step.Fail LockManager call mode) tt h
+step_holds law w b (step.Fail (Replica number) call mode) brings h = law.apart_step w b (step.Fail (Replica number) call mode) tt h
+step_holds law w b (step.Page number page stamp) brings h = law.apart_step w b (step.Page number page stamp) tt h
+step_holds law w b (step.Version number page stamp) brings h = law.apart_step w b (step.Version number page stamp) tt h
+step_holds law w b (step.Publish number bound) brings h = law.apart_step w b (step.Publish number bound) tt h
+step_holds law w b (step.Lag number) brings h = law.apart_step w b (step.Lag number) tt h
+step_holds law w b (step.Get number point table key) brings h = law.apart_step w b (step.Get number point table key) tt h
+step_holds law w b (step.Scan number point table from count) brings h = law.apart_step w b (step.Scan number point table from count) tt h
+
+-- ---- every run
+
+run_holds : StepHolds → (w : World) (b : Beside) (ss : List Step) → BringAll w ss → LogsHold w b → LogsHold (run w ss) (after_steps b w ss)
+run_holds law w b [] brings h = h
+run_holds law w b (s ∷ ss) brings h = run_holds law (world_step w s).world (after_step b w s) ss brings.1 (law w b s brings.0 h)
+
+pub always : StepHolds → BeginHolds → Always LogsHold
+always law began masters page_stores replicas ss brings = run_holds law (begin masters page_stores replicas) nothing ss brings (began masters page_stores replicas)
+
+pub so_always : (P : World → Beside → Type 0) → ((w : World) (b : Beside) → LogsHold w b → P w b) → Always LogsHold → Always P
+so_always P so h masters page_stores replicas ss brings =
+    so (run (begin masters page_stores replicas) ss) (after_steps nothing (begin masters page_stores replicas) ss) (h masters page_stores replicas ss brings)
+
+-- What is so of every world is always so.
+pub of_every : (P : World → Beside → Type 0) → ((w : World) (b : Beside) → P w b) → Always P
+of_every P so masters page_stores replicas ss brings = so (run (begin masters page_stores replicas) ss) (after_steps nothing (begin masters page_stores replicas) ss)
+
+-- ---- what follows
+
+pub fronts : (w : World) (b : Beside) → LogsHold w b → ListsAreFronts w b
+fronts w b h store writer = (h.stores store).disk.of.lists writer
+
+pub held : (w : World) (b : Beside) → LogsHold w b → DurableIsHeld w b
+held w b h store writer of =
+    within (length (log_of (log_kept w store) writer).groups) (durable_by (fin.get b.lives writer))
+    (λ one. (h.stores store).disk.acks writer (durable_by (fin.get b.lives writer)) (reached_marked (fin.get b.lives writer) store of one))
+
+pub differ : ((inputs : List Message) (v u : ℕ) (e f : WriterEntry) → lock_runs.WritersDiffer inputs v u e f) → (w : World) (b : Beside) → WritersDiffer w b
+differ law w b v u e f is_e is_f master boot = law w.lock_disk.records v u e f is_e is_f master boot
+
+-- ---- what messages tell
+
+store_tells : (w : World) (b : Beside) (store : ℕ) (n : Note) → LogsHold w b → store_told.NoteFact (log_kept w store) (hard w b) n → Tells w b (LogStore store) n
+store_tells w b store (note.Ack writer seq) h f = f
+store_tells w b store (note.Sealed writer length) h f = f
+store_tells w b store (note.SealedAt writer length) h f = f
+store_tells w b store (note.Groups writer groups) h f = record {
+  first = f.first;
+  places = λ i g is.
+      let place = f.places i g is in
+      (front_numbered (log_of (log_kept w store) writer.0).groups (log_by b writer.0) (f.first + i) g (fronts w b h store writer.0) place.0, place.1);
+}
+store_tells w b store n h f = tt
+
+master_tells : (w : World) (b : Beside) (number : ℕ) (to : Node) (n : Note) → MasterSays (view w b) number to n → Tells w b (Master number) n
+master_tells w b number to (note.Append g) f = f
+master_tells w b number to (note.Stable writer seq) f = f
+master_tells w b number to (note.Close writer length store) f = f.1
+master_tells w b number to n f = tt
+
+status_end : (x : WriterStatus) (state : WriterState) (groups : ℕ) → is_live state ≡ false → StateFact x state groups → (end : LogEnd) × (end_in x ≡ Some end) × (end.length ≡ groups)
+status_end x told.Live groups over f = absurd (cc over)
+status_end Live told.Closed groups over f = absurd f
+status_end Live told.Recovered groups over f = absurd f
+status_end (Closed length store taken) told.Closed groups over f = (record { length = length; store = store }, refl, sym f)
+status_end (Closed length store taken) told.Recovered groups over f = absurd f
+status_end (Recovered length store vector) told.Closed groups over f = (record { length = length; store = store }, refl, sym f)
+status_end (Recovered length store vector) told.Recovered groups over f = (record { length = length; store = store }, refl, sym f)
+
+entry_end : (o : Option WriterEntry) (r : RosterEntry) (sent w : ℕ) → is_live r.state ≡ false → RosterFact sent w o (Some r) → (end : LogEnd) × (ended_at o ≡ Some end) × (end.length ≡ r.length)
+entry_end None r sent w over f = absurd f
+entry_end (Some e) r sent w over f = status_end e.status r.state r.length over f.state
+
+lock_tells : (w : World) (b : Beside) (to : Node) (sent : ℕ) (n : Note) → lock_told.NoteFact (locks_kept w) to sent n → Tells w b LockManager n
+lock_tells w b to sent (note.Closed writer length store) f = f
+lock_tells w b to sent (note.Roster entries) f = λ writer r is over.
+    entry_end (at (locks_kept w).writers writer) r sent writer over (subst (RosterFact sent writer (at (locks_kept w).writers writer)) is (f.1 writer))
+lock_tells w b to sent n f = tt
+
+tells : (w : World) (b : Beside) (m : Message) → LogsHold w b → (from : Node) → SaysFrom (view w b) m from → Tells w b from m.note
+tells w b m h (Master number) f = master_tells w b number m.to m.note f
+tells w b m h (LogStore store) f = store_tells w b store m.note h f.0.note
+tells w b m h (PageStore number) f = page_tells w b number m.note
+  where
+    page_tells : (w : World) (b : Beside) (number : ℕ) (n : Note) → Tells w b (PageStore number) n
+    page_tells w b number n = tt
+tells w b m h LockManager f = lock_tells w b m.to m.stamp.0 m.note f.note
+tells w b m h (Replica number) f = replica_tells w b number m.note
+  where
+    replica_tells : (w : World) (b : Beside) (number : ℕ) (n : Note) → Tells w b (Replica number) n
+    replica_tells w b number n = tt
+
+pub all_tell : (w : World) (b : Beside) → LogsHold w b → AllTell w b
+all_tell w b h number m is = tells w b m h m.from (sent_before (Says (view w b)) w.sent number m h.sent is)

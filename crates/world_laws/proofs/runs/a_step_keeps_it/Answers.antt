@@ -1,0 +1,15 @@
+use Rattle.world_laws.proofs.RunLemmas.{step_holds}
+use Rattle.world_laws.proofs.runs.a_step_keeps_it.Goals as goal
+
+pub returns : goal.returns
+returns c = step_holds (record {
+  apart_delivery = c.a_delivery_to_a_page_store_or_replica_keeps_it.ensures;
+  apart_step = c.a_step_apart_keeps_it.ensures;
+  lock_delivery = c.a_delivery_to_the_lock_manager_keeps_it.ensures;
+  lock_step = c.the_lock_manager_keeps_it_over_stops.ensures;
+  store_delivery = c.a_delivery_to_a_log_store_keeps_what_was_said.ensures.holds;
+  store_step = c.a_log_store_keeps_it_over_stops.ensures;
+  master_delivery = c.a_delivery_to_a_master_keeps_it.ensures;
+  command = c.a_command_keeps_it.ensures;
+  master_tick = c.a_tick_of_a_master_keeps_it.ensures;
+})

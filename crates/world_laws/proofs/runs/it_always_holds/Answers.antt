@@ -1,0 +1,5 @@
+use Rattle.world_laws.proofs.RunLemmas.{always}
+use Rattle.world_laws.proofs.runs.it_always_holds.Goals as goal
+
+pub returns : goal.returns
+returns c = always c.a_step_keeps_it.ensures c.it_holds_at_the_beginning.ensures

@@ -1,0 +1,66 @@
+//! What holds of every run of the world, whatever its steps are.
+//!
+//! The steps are a list of any length: deliveries of any message that was ever sent, any number of times and in any order,
+//! commands, ticks, stops, starts and failing disks. What comes to a master is taken to be what the format of messages can
+//! spell (`BringAll`).
+ghost use Rattle.world_laws.specs.Invariant.{LogsHold};
+ghost use Rattle.world_laws.specs.Runs.{AllTell, Always, DurableIsHeld, ListsAreFronts, StepHolds, WritersDiffer};
+
+use crate::{apart, begin, locks, masters, stores};
+use lock_model::laws;
+
+/// Every step keeps the whole invariant, with what is kept beside the world after it.
+pub fn a_step_keeps_it()
+    ensures { StepHolds }
+{
+    apart::a_delivery_to_a_page_store_or_replica_keeps_it();
+    apart::a_step_apart_keeps_it();
+    locks::a_delivery_to_the_lock_manager_keeps_it();
+    locks::the_lock_manager_keeps_it_over_stops();
+    stores::a_delivery_to_a_log_store_keeps_what_was_said();
+    stores::a_log_store_keeps_it_over_stops();
+    masters::a_delivery_to_a_master_keeps_it();
+    masters::a_command_keeps_it();
+    masters::a_tick_of_a_master_keeps_it();
+}
+
+/// So it holds after every list of steps.
+pub fn it_always_holds()
+    ensures { Always LogsHold }
+{
+    a_step_keeps_it();
+    begin::it_holds_at_the_beginning();
+}
+
+/// A log store's list of a writer is always a front of that writer's log. Refused is a log store that keeps another group
+/// than the one that was logged.
+pub fn lists_are_fronts_of_the_logs()
+    ensures { Always ListsAreFronts }
+{
+    it_always_holds();
+}
+
+/// What a master takes for durable is held by all three log stores, over stops and failing disks. Refused is a log store
+/// that acknowledges a group before it is kept.
+pub fn what_is_durable_is_held()
+    ensures { Always DurableIsHeld }
+{
+    it_always_holds();
+}
+
+/// Each message that was ever sent is still true: a group that was acknowledged is held; a length that was named of a
+/// sealed log is that store's; groups that were served are the writer's own, in their places, and stand for ever; an
+/// append names its writer's group; a close is of a log store that is sealed there; and all that is told of a closed writer
+/// is the lock manager's one close. Refused is a lock manager that lets a second close replace the first.
+pub fn what_was_said_is_so()
+    ensures { Always AllTell }
+{
+    it_always_holds();
+}
+
+/// Writers are numbered once for each master and boot. Refused is a repeated register that gets a new number.
+pub fn writers_are_numbered_once()
+    ensures { Always WritersDiffer }
+{
+    laws::writers_differ();
+}
