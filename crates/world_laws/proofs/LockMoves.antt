@@ -26,7 +26,7 @@ use Rattle.store_model.specs.LogGoes.{AreLonger, Goes, IsOf}
 use Rattle.world_model.specs.Disk.{Disk}
 use Rattle.world_model.specs.World.{World, Past, or_zero}
 use Rattle.world_laws.specs.Beside.{Beside, durable_by, log_by, up_to}
-use Rattle.world_laws.specs.Invariant.{LogsHold}
+use Rattle.world_laws.specs.Invariant.{LogsHold, StepKeeps}
 use Rattle.world_laws.specs.Kept.{end_of, hard, locks_kept, log_kept}
 use Rattle.world_laws.specs.Lives.{BootFacts, EndFact, JoinedAs, JoinedFact, LifeFact, LivesHold, RecoveryFact, RunsAs, StageFact}
 use Rattle.world_laws.specs.LogStores.{RunsBy, RunsFrom, StoreHolds, StoresHold}
@@ -39,6 +39,26 @@ pub record MoveLaws : Type 0 where
   pub tells : TellLaws
   pub store_still : (s : LogStoreState) → Goes s s
   pub longer : (logs new_logs : ℕ → List Group) (most new_most : ℕ → ℕ) (s : LogStoreState) → AreLonger logs new_logs most new_most → IsOf logs most s → IsOf new_logs new_most s
+
+pub at_itself : (n : ℕ) → n ≤ n
+at_itself n = omega arith
+
+pub at_most : (a b c : ℕ) → a ≤ b → b ≤ c → a ≤ c
+at_most a b c h k = omega (arith, h, k)
+
+pub record StillLaws : Type 0 where
+  pub of_moves : MoveLaws
+  pub lock_still : (s : locks.State) → lock_goes.Goes s s
+
+-- A world with the same view has gone on.
+pub view_still : StillLaws → (w : World) (b : Beside) → ViewGoes (view w b) (view w b)
+view_still law w b = record {
+  stores = λ number. law.of_moves.store_still (log_kept w number);
+  of_locks = law.lock_still (locks_kept w);
+  logs = λ writer. ([], sym (append-nil (log_by b writer)));
+  most = λ writer. at_itself (hard w b writer);
+  boots = λ number. at_itself (or_zero (fin.get w.boots number));
+}
 
 -- ---- how the disk's state goes on
 
@@ -73,12 +93,6 @@ kept d = after locks.start d.records
 end_stays : (w : World) (b : Beside) (x : locks.State) (writer : ℕ) → EndMove w b x writer → (e : LogEnd) → end_of w writer ≡ Some e → ended_at (at x.writers writer) ≡ Some e
 end_stays w b x writer (inl same) e is = same ∙ is
 end_stays w b x writer (inr g) e is = absurd (cc (sym g.was ∙ is))
-
-pub at_itself : (n : ℕ) → n ≤ n
-at_itself n = omega arith
-
-pub at_most : (a b c : ℕ) → a ≤ b → b ≤ c → a ≤ c
-at_most a b c h k = omega (arith, h, k)
 
 most_goes : (w : World) (b : Beside) (x : locks.State) (writer : ℕ) → EndMove w b x writer → hard w b writer ≤ up_to (ended_at (at x.writers writer)) (durable_by (fin.get b.lives writer))
 most_goes w b x writer (inl same) =
@@ -226,16 +240,19 @@ lock_says v m h = subst (SaysFrom v m) (sym h.sender) h
 
 pub lock_holds : MoveLaws → (w : World) (b : Beside) (lock : Option locks.State) (d : Disk Message) (p : Past) (messages : List Message)
     → LockMove w b (kept d) p → RunsAs (kept d) lock → AllByRecursion (lock_told.MessageFact (kept d)) messages
-    → LogsHold w b → LogsHold (moves w lock d p messages) b
+    → LogsHold w b → StepKeeps w b (moves w lock d p messages) b
 lock_holds law w b lock d p messages move runs told h =
     let t = moves w lock d p messages in
     let on : ViewGoes (view w b) (view t b) = view_moves law w b lock d p messages move in
     record {
-      stores = stores_move law w b lock d p messages move.ends h.stores;
-      lives = lives_move w b lock d p messages move runs h.lives;
-      sent = both (Says (view t b)) w.sent messages
-          (each (Says (view w b)) (Says (view t b)) (λ m. sayings_stay law.tells (view w b) (view t b) m on) w.sent h.sent)
-          (each (lock_told.MessageFact (kept d)) (Says (view t b)) (λ m. lock_says (view t b) m) messages told);
+      holds = record {
+        stores = stores_move law w b lock d p messages move.ends h.stores;
+        lives = lives_move w b lock d p messages move runs h.lives;
+        sent = both (Says (view t b)) w.sent messages
+            (each (Says (view w b)) (Says (view t b)) (λ m. sayings_stay law.tells (view w b) (view t b) m on) w.sent h.sent)
+            (each (lock_told.MessageFact (kept d)) (Says (view t b)) (λ m. lock_says (view t b) m) messages told);
+      };
+      goes = on;
     }
 
 -- A disk with the same records, what is kept of the run as it was.

@@ -27,11 +27,12 @@ use Rattle.store_model.specs.LogState.{log_of}
 use Rattle.world_model.specs.Past.{group_of, logged}
 use Rattle.world_model.specs.World.{World, Past, or_zero}
 use Rattle.world_laws.specs.Beside.{Beside, durable_by, log_by, logged_by, up_to}
-use Rattle.world_laws.specs.Invariant.{LogsHold}
+use Rattle.world_laws.specs.Invariant.{LogsHold, StepKeeps}
 use Rattle.world_laws.specs.Kept.{end_of, locks_kept, log_kept}
 use Rattle.world_laws.specs.Lives.{JoinedAs, JoinedFact, LifeFact, MasterFact, RecoveryFact, StageFact}
 use Rattle.world_laws.specs.Messages.{View, view}
-use Rattle.world_laws.proofs.MasterMoves.{LifeMove, StillLaws, after, at_life, at_log, durable_stands, each_number, life_holds, world}
+use Rattle.world_laws.proofs.LockMoves.{StillLaws}
+use Rattle.world_laws.proofs.MasterMoves.{LifeMove, after, at_life, at_log, durable_stands, each_number, life_holds, world}
 use Rattle.world_laws.proofs.MasterTold.{Heard, Speaks, life_says}
 use Rattle.world_laws.proofs.PastLemmas.{hard_after, number_here, number_there}
 use Rattle.world_laws.proofs.StoreLemmas.{set_other}
@@ -190,7 +191,7 @@ module _ (w : World) (b : Beside) (number : ℕ) (s new : State) (p : Past) (mes
       }
 
   pub goes_on : StillLaws → Stepped w old l messages → Keeps w b number s new p old l → LogsHold w b
-      → LogsHold (world w b number new p messages l more) (after w b number new p messages l more)
+      → StepKeeps w b (world w b number new p messages l more) (after w b number new p messages l more)
   goes_on law step keeps h =
       life_holds w b number new p messages l more law (move step keeps h)
       (life_says (view (world w b number new p messages l more) (after w b number new p messages l more)) (end_of w) l messages (speaks step keeps h) step.sends step.stages) h
