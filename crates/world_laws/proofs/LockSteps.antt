@@ -33,7 +33,7 @@ use Rattle.world_model.specs.Disk.{Armed, Disk, Worked, appended, appended_as, a
 use Rattle.world_model.specs.Past.{managed, managed_by}
 use Rattle.world_model.specs.World.{World, Effect, Past, or_zero}
 use Rattle.world_model.specs.Nodes.{lock_keeps, lock_takes, lock_ticks, message_size}
-use Rattle.world_model.specs.Step.{if_up, lock_after, lock_opens, runs, starts}
+use Rattle.world_model.specs.Step.{if_up, lock_opens, runs, starts}
 use Rattle.world_laws.specs.Beside.{Beside, durable_by, up_to}
 use Rattle.world_laws.specs.Invariant.{LockDeliveryHolds, LockStepHolds, LogsHold, StepKeeps}
 use Rattle.world_laws.specs.Kept.{IsOneOfThree, locks_kept, log_kept}
@@ -288,10 +288,6 @@ lock_delivery_holds law w b m says h = takes law w b m says h w.lock refl
 
 -- ---- the other steps
 
-started_after : (s : State) (ms : List Message) → lock_after s ms ≡ after s ms
-started_after s [] = refl
-started_after s (m ∷ ms) = started_after (step s m).0 ms
-
 ticks : LockLaws → (w : World) (b : Beside) → LogsHold w b → (o : Option State) → StepKeeps w b (lock_ticks w o).world b
 ticks law w b h None = stays law w b w.lock w.lock_disk refl h.lives.lock h
 ticks law w b h (Some s) = stays law w b w.lock w.lock_disk refl h.lives.lock h
@@ -304,7 +300,7 @@ pub lock_opened : LockLaws → (w : World) (b : Beside) (k : Worked Message) →
 lock_opened law w b k same h = by k.done
   where
     by : (c : Bool) → StepKeeps w b (lock_opens w (record { disk = k.disk; done = c })).world b
-    by true = stays law w b (Some (lock_after start k.disk.records)) k.disk same (started_after start k.disk.records) h
+    by true = stays law w b (Some (after start k.disk.records)) k.disk same refl h
     by false = stays law w b w.lock k.disk same (subst (λ (ms : List Message). RunsAs (after start ms) w.lock) (sym same) h.lives.lock) h
 
 starts_up : LockLaws → (w : World) (b : Beside) → LogsHold w b → (c : Bool) → StepKeeps w b (starts w LockManager c).world b
