@@ -170,6 +170,7 @@ lives_stay w b stores disks sent goes h = record {
         facts = f.facts;
         log_kept = f.log_kept;
         epochs = f.epochs;
+        roster = f.roster;
         recovery = recovery_goes (log_kept w) (log_kept (record w { log = stores; log_disk = disks; sent = sent })) goes (end_of w) l.recovery f.recovery;
       };
   none = h.none;
