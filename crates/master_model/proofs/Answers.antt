@@ -73,7 +73,7 @@ pub record Answered (session : ℕ) (P : Work → Answer → Type 0) : Type 0 wh
   pub tag : (w : Work) (page : ℕ) (key : List ℕ) (number : ℕ) (value : Option (List ℕ)) → P w (says (record w { tags = with_tag w.tags page key (txn_numbered w number) }) (reply.Value value))
   pub put : (w : Work) (p : Put) (leaf : Image) (path fresh : List Page) (groups : List (List Record)) → HasRoom w (length groups) → P w (put_logged p leaf path fresh (logs w groups))
   pub end : (w : Work) (session : ℕ) (own : Own) (committed : Bool) (groups : List (List Record)) → HasRoom w (length groups) → P w (ends.ends session own committed (logs w groups))
-  pub left : (w : Work) (session : ℕ) (own : Own) (rows : List RowKey) (groups : List (List Record)) → HasRoom w (length groups) → P w (ends.rows_left session own rows (logs w groups))
+  pub left : (w : Work) (session : ℕ) (own : Own) (rows : List RowKey) (groups : List (List Record)) → 1 ≤ length rows → HasRoom w (length groups) → P w (ends.rows_left session own rows (logs w groups))
   pub undone : (w : Work) (groups : List (List Record)) → HasRoom w (length groups) → P w (ends.undone_logged (logs w groups))
   pub over : (w : Work) (own : Own) (committed : Bool) (seq : ℕ) → EndsHere w session own committed seq → P w (says (free w session) (end_reply committed (txn_numbered w own.number)))
 
@@ -320,7 +320,7 @@ module _ {session : ℕ} {P : Work → Answer → Type 0} (c : Answered session 
 
   abort_says_with : (w : Work) (session : ℕ) (own : Own) (t : Txn) (undone : List (List Record)) (rows : List RowKey) → P w (ends.aborts_with w session own t undone rows)
   abort_says_with w session own t undone [] = end_says w session own false (undone ++ ends.end_of t false ∷ []) (length undone + 1) (length-append undone (ends.end_of t false ∷ []))
-  abort_says_with w session own t undone (k ∷ ks) = room_says w (length undone) _ (c.left w session own (k ∷ ks) undone)
+  abort_says_with w session own t undone (k ∷ ks) = room_says w (length undone) _ (c.left w session own (k ∷ ks) undone (omega arith))
 
   abort_says_rows : (w : Work) (session : ℕ) (own : Own) (t : Txn) (rows : List RowKey) → P w (ends.aborts_rows w session own t rows)
   abort_says_rows w session own t [] = abort_says_with w session own t [] []
