@@ -28,7 +28,7 @@ use Rattle.master_model.specs.Facts.{Brings, Facts, GrantIsBegun, GrantsBegun, I
 use Rattle.master_model.proofs.Moves.{Cause, Granted, ClosedFor, with_ack_of}
 use Rattle.master_model.proofs.OpenLemmas.{unended_open}
 use Rattle.master_model.proofs.SessionLemmas.{session_facts}
-use Rattle.master_model.proofs.StepMoves.{Allows, AllowsAck, AllowsFresh, command_moves, note_moves_for}
+use Rattle.master_model.proofs.StepMoves.{Allows, AllowsAck, AllowsFresh, backs_any, command_moves, note_moves_for}
 use Rattle.master_model.proofs.TagLemmas.{unended_own, without_passes}
 use Rattle.master_model.proofs.TagSetLemmas.{AllTags, all_inserted, all_moved, all_none, all_with, left_passes}
 
@@ -105,8 +105,8 @@ begun_moves = record {
   image = λ w image held same h. (session_facts.image w image held same h.0, image_begun w _ h.1);
   fresh_page = λ w page is came h. h;
   fresh_none = λ w h. h;
-  recall = λ w page epoch h. h;
-  give_back = λ w page is h. (h.0, λ t at. h.1 t (left_passes w.tags (λ x. not (is_on page x)) t at).0);
+  recall = λ w page epoch came h. h;
+  give_back = λ w page is came h. (h.0, λ t at. h.1 t (left_passes w.tags (λ x. not (is_on page x)) t at).0);
   release = λ w page epoch is h. h;
   path = λ w path h. h;
   end = λ w t is h. (h.0, λ u at. h.1 u (left_passes w.tags (λ x. not (same_txn x.txn t)) u at).0);
@@ -157,7 +157,7 @@ message_begun begun s m f h brings grant = by s.life f h grant
     in_life l true f k grant = h
     in_life l false f k grant =
         let heard : Life = does.heard l m.stamp.0 in
-        (note_moves_for begun_moves heard m.from m.stamp.0 m.note brings.0 (grants_are heard.work m.from m.note grant) (f.of_sessions, k)).1
+        (note_moves_for begun_moves heard m.from m.stamp.0 m.note brings.0 (grants_are heard.work m.from m.note grant) (backs_any Begun (λ w page. tt) m.note) (f.of_sessions, k)).1
 
     by : (o : Option Life) → LifeFacts begun o → OwnTags o → GrantIsBegun o m.note → OwnTags (does.step_by s m o).0.life
     by None f k grant = joined_begun s m.stamp.0 m.note h

@@ -25,8 +25,8 @@ use Rattle.master_model.specs.Step as does
 use Rattle.master_model.specs.Step.{step, on_command}
 use Rattle.master_model.specs.Facts.{Brings}
 use Rattle.master_model.specs.Causes.{Acknowledges, AcknowledgesOwn, Joins, is_noted}
-use Rattle.master_model.proofs.Moves.{Cause, Acked, Granted, Fresh, Closed, ClosedFor}
-use Rattle.master_model.proofs.StepMoves.{Allows, AllowsAck, AllowsFresh, command_moves, note_moves_for}
+use Rattle.master_model.proofs.Moves.{Cause, Acked, Granted, Fresh, GivenBack, Closed, ClosedFor}
+use Rattle.master_model.proofs.StepMoves.{Allows, AllowsAck, AllowsFresh, Backs, backs_any, command_moves, note_moves_for}
 
 -- ---- what a message brings
 
@@ -38,6 +38,7 @@ abbrev pub IsOf : Node → Note → Work → Cause → Type 0
 IsOf from n w (Acked store seq) = (from ≡ LogStore store) × (n ≡ note.Ack w.log.writer seq)
 IsOf from n w (Granted page epoch stamp tags vector) = n ≡ note.Grant w.log.writer page epoch stamp tags vector
 IsOf from n w (Fresh page) = (nth : ℕ) × (n ≡ note.FreshIs w.log.writer nth (Some page))
+IsOf from n w (GivenBack page) = Unit {0}
 
 pub brings_its_own : (w : Work) (from : Node) (n : Note) → Allows (IsOf from n) w from n
 brings_its_own w from (note.Ack writer seq) = by from
@@ -76,8 +77,8 @@ writer_moves = record {
   image = λ w image held same. image_writer w _;
   fresh_page = λ w page is came. refl;
   fresh_none = λ w. refl;
-  recall = λ w page epoch. refl;
-  give_back = λ w page is. refl;
+  recall = λ w page epoch came. refl;
+  give_back = λ w page is came. refl;
   release = λ w page epoch is. refl;
   path = λ w path. refl;
   end = λ w t is. refl;
@@ -147,8 +148,8 @@ module _ (P : Writer → ℕ → ℕ → Type 0) where
     image = λ w image held same. image_marks w _;
     fresh_page = λ w page is came. marks_stay w.log;
     fresh_none = λ w. marks_stay w.log;
-    recall = λ w page epoch. marks_stay w.log;
-    give_back = λ w page is. marks_stay w.log;
+    recall = λ w page epoch came. marks_stay w.log;
+    give_back = λ w page is came. marks_stay w.log;
     release = λ w page epoch is. marks_stay w.log;
     path = λ w path. marks_stay w.log;
     end = λ w t is. marks_stay w.log;
@@ -171,14 +172,14 @@ Moved R (Some old) None = ⊥
 Moved R (Some old) (Some new) = R old.work new.work
 
 module _ {G : Work → Cause → Type 0} {R : Work → Work → Type 0} (c : ClosedFor G R) where
-  pub message_moves : (s : State) (m : Message) → Brings m → ((l : Life) → s.life ≡ Some l → Allows G (does.heard l m.stamp.0).work m.from m.note) → Moved R s.life (step s m).0.life
-  message_moves s m brings allowed = by s.life refl
+  pub message_moves : (s : State) (m : Message) → Brings m → ((l : Life) → s.life ≡ Some l → Allows G (does.heard l m.stamp.0).work m.from m.note) → Backs G m.note → Moved R s.life (step s m).0.life
+  message_moves s m brings allowed back = by s.life refl
     where
       in_life : (l : Life) (b : Bool) → s.life ≡ Some l → Moved R (Some l) (does.step_in s l m b).0.life
       in_life l true is = subst (λ (o : Option Life). Moved R (Some l) o) (sym is) (c.none l.work)
       in_life l false is =
           let heard : Life = does.heard l m.stamp.0 in
-          c.both l.work heard.work _ (c.hears_stamp l.work m.stamp.0 brings.1) (note_moves_for c heard m.from m.stamp.0 m.note brings.0 (allowed l is))
+          c.both l.work heard.work _ (c.hears_stamp l.work m.stamp.0 brings.1) (note_moves_for c heard m.from m.stamp.0 m.note brings.0 (allowed l is) back)
 
       by : (o : Option Life) → s.life ≡ o → Moved R o (does.step_by s m o).0.life
       by None is = tt
@@ -236,7 +237,7 @@ acks_allowed m w = by m.from m.note refl refl (brings_its_own w m.from m.note)
 
 pub marks_of_message : (s : State) (m : Message) (seq store : ℕ) → Brings m → is_noted (step s m).0.life seq store ≡ true → (is_noted s.life seq store ≡ true) ⊎ AcknowledgesOwn (step s m).0.life m seq store
 marks_of_message s m seq store brings =
-    new_marks m s.life (step s m).0.life (message_moves (mark_moves (λ writer seq store. Acknowledges m writer seq store)) s m brings (λ l is. acks_allowed m (does.heard l m.stamp.0).work))
+    new_marks m s.life (step s m).0.life (message_moves (mark_moves (λ writer seq store. Acknowledges m writer seq store)) s m brings (λ l is. acks_allowed m (does.heard l m.stamp.0).work) (backs_any (Came (λ writer seq store. Acknowledges m writer seq store)) (λ w page. tt) m.note))
     (λ n k is. joins_or_not (λ o. is_noted o n k ≡ false) s m is refl (λ l joins. ap (λ (x : Life). is_noted (Some x) n k) joins.life ∙ unmarked n k)) seq store
   where
     no_groups : List Logged

@@ -24,8 +24,8 @@ use Rattle.master_model.specs.Step as does
 use Rattle.master_model.specs.Step.{step, on_command}
 use Rattle.master_model.specs.Facts.{Brings}
 use Rattle.master_model.specs.Causes.{EpochCame, GivesFresh, GrantsAt, Joins, WriterStays, epoch_in}
-use Rattle.master_model.proofs.Moves.{Cause, Acked, Granted, Fresh, ClosedFor}
-use Rattle.master_model.proofs.StepMoves.{Allows, AllowsAck, AllowsFresh}
+use Rattle.master_model.proofs.Moves.{AnyCause, Cause, Acked, Granted, Fresh, GivenBack, ClosedFor}
+use Rattle.master_model.proofs.StepMoves.{Allows, AllowsAck, AllowsFresh, any_allowed, backs_any}
 use Rattle.master_model.proofs.CauseLemmas.{IsOf, Moved, asked_moves, brings_its_own, joins_or_not, message_moves, writer_moves}
 
 -- ---- a life
@@ -41,22 +41,8 @@ stays_of None new h = tt
 stays_of (Some old) None h = h
 stays_of (Some old) (Some new) h = h
 
-any_allowed : (w : Work) (from : Node) (n : Note) → Allows (λ w cause. Unit {0}) w from n
-any_allowed w from (note.Ack writer seq) = by from
-  where
-    by : (from : Node) → AllowsAck (λ w cause. Unit {0}) w writer seq from
-    by (LogStore store) = λ is. tt
-    by other = tt
-any_allowed w from (note.Grant writer page epoch of tags vector) = λ is. tt
-any_allowed w from (note.FreshIs writer nth page) = by page
-  where
-    by : (o : Option Page) → AllowsFresh (λ w cause. Unit {0}) w writer o
-    by None = tt
-    by (Some page) = λ is. tt
-any_allowed w from other = tt
-
 pub writer_after_message : (s : State) (m : Message) → Brings m → WriterStays s.life (step s m).0.life
-writer_after_message s m brings = stays_of s.life (step s m).0.life (message_moves writer_moves s m brings (λ l is. any_allowed (does.heard l m.stamp.0).work m.from m.note))
+writer_after_message s m brings = stays_of s.life (step s m).0.life (message_moves writer_moves s m brings (λ l is. any_allowed (does.heard l m.stamp.0).work m.from m.note) (backs_any AnyCause (λ w page. tt) m.note))
 
 pub writer_after_command : (s : State) (session : ℕ) (asked : Command) → WriterStays s.life (on_command s session asked).0.life
 writer_after_command s session asked = stays_of s.life (on_command s session asked).0.life (asked_moves writer_moves s session asked)
@@ -75,6 +61,7 @@ module _ (P : ℕ → ℕ → Type 0) where
   EpochComes w (Acked store seq) = Unit {0}
   EpochComes w (Granted page epoch stamp tags vector) = P page.0 epoch
   EpochComes w (Fresh page) = P page.0 1
+  EpochComes w (GivenBack page) = Unit {0}
 
   stay : (m : Leases) → LeaseEpochs m m
   stay m page = inl refl
@@ -162,8 +149,8 @@ module _ (P : ℕ → ℕ → Type 0) where
     image = λ w image held same. image_epochs w _;
     fresh_page = λ w page is came. granted_epochs w.leases page.0 1 (record { 0 = 0 }) came;
     fresh_none = λ w. stay w.leases;
-    recall = λ w page epoch. recalled_epochs w.leases page epoch;
-    give_back = λ w page is. releasing_epochs w.leases page;
+    recall = λ w page epoch came. recalled_epochs w.leases page epoch;
+    give_back = λ w page is came. releasing_epochs w.leases page;
     release = λ w page epoch is. released_epochs w.leases page epoch;
     path = λ w path. stay w.leases;
     end = λ w t is. stay w.leases;
@@ -218,7 +205,7 @@ epoch_of_message s m page brings = by s.life refl
     by None is = inl (subst (λ (o : Option Life). epoch_in (does.step_by s m o).0.life page ≡ 0) is (joins_or_not (λ o. epoch_in o page ≡ 0) s m is refl (λ l joins. ap (λ (x : Life). epoch_in (Some x) page) joins.life ∙ nothing_leased page)))
     by (Some l) is = from_life l (does.step_by s m (Some l)).0.life
         (subst (λ (o : Option Life). Moved (Epochs (Brought m l.work.log.writer)) o (does.step_by s m o).0.life) is
-        (message_moves (epoch_moves (Brought m l.work.log.writer)) s m brings (λ x at. epochs_allowed m l.work.log.writer (does.heard x m.stamp.0).work (same_life x l at is))))
+        (message_moves (epoch_moves (Brought m l.work.log.writer)) s m brings (λ x at. epochs_allowed m l.work.log.writer (does.heard x m.stamp.0).work (same_life x l at is)) (backs_any (EpochComes (Brought m l.work.log.writer)) (λ w p. tt) m.note)))
 
 pub epoch_of_command : (s : State) (session : ℕ) (asked : Command) (page : ℕ) → epoch_in (on_command s session asked).0.life page ≡ epoch_in s.life page
 epoch_of_command s session asked page = by s.life (on_command s session asked).0.life (no_life_begins s session asked) refl (asked_moves (epoch_moves (λ p epoch. ⊥)) s session asked)

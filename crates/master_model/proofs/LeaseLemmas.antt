@@ -41,22 +41,22 @@ facts_at m n old new page others here f q = by (nat_eq q page) refl
         let same = others q is in
         subst (λ (o : Option Left). LeaseFact (lease_of n q) o) (sym same.1) (subst (λ (a : PageLease). LeaseFact a (fin.get old q)) (sym same.0) (f q))
 
-lease_other : (m : Leases) (page q : ℕ) (l : PageLease) → nat_eq q page ≡ false → lease_of (fin.insert m page l) q ≡ lease_of m q
+pub lease_other : (m : Leases) (page q : ℕ) (l : PageLease) → nat_eq q page ≡ false → lease_of (fin.insert m page l) q ≡ lease_of m q
 lease_other m page q l other = grind (arith, nat_tests, gets)
 
-lease_here : (m : Leases) (page : ℕ) (l : PageLease) → lease_of (fin.insert m page l) page ≡ l
+pub lease_here : (m : Leases) (page : ℕ) (l : PageLease) → lease_of (fin.insert m page l) page ≡ l
 lease_here m page l = grind (arith, nat_tests, gets)
 
-removed_here : (left : Lefts) (page : ℕ) → fin.get (fin.remove left page) page ≡ None
+pub removed_here : (left : Lefts) (page : ℕ) → fin.get (fin.remove left page) page ≡ None
 removed_here left page = grind (arith, nat_tests, gets)
 
-removed_other : (left : Lefts) (page q : ℕ) → nat_eq q page ≡ false → fin.get (fin.remove left page) q ≡ fin.get left q
+pub removed_other : (left : Lefts) (page q : ℕ) → nat_eq q page ≡ false → fin.get (fin.remove left page) q ≡ fin.get left q
 removed_other left page q other = grind (arith, nat_tests, gets)
 
-kept_here : (left : Lefts) (page : ℕ) (l : Left) → fin.get (fin.insert left page l) page ≡ Some l
+pub kept_here : (left : Lefts) (page : ℕ) (l : Left) → fin.get (fin.insert left page l) page ≡ Some l
 kept_here left page l = grind (arith, nat_tests, gets)
 
-kept_other : (left : Lefts) (page q : ℕ) (l : Left) → nat_eq q page ≡ false → fin.get (fin.insert left page l) q ≡ fin.get left q
+pub kept_other : (left : Lefts) (page q : ℕ) (l : Left) → nat_eq q page ≡ false → fin.get (fin.insert left page l) q ≡ fin.get left q
 kept_other left page q l other = grind (arith, nat_tests, gets)
 
 -- A lease that changes where the test passes, with nothing kept of the page.
@@ -65,7 +65,7 @@ facts_set m left page new false h f = f
 facts_set m left page new true h f =
     facts_at m (fin.insert m page new) left left page (λ q other. (lease_other m page q new other, refl)) (subst (λ (a : PageLease). LeaseFact a (fin.get left page)) (sym (lease_here m page new)) (h refl)) f
 
-held_not : (s : Lease) → is_held s ≡ true → is_releasing s ≡ false
+pub held_not : (s : Lease) → is_held s ≡ true → is_releasing s ≡ false
 held_not lease.Held h = refl
 held_not lease.None h = absurd (cc h)
 held_not lease.Recalled h = refl
@@ -77,7 +77,7 @@ held_out lease.None h = absurd (cc h)
 held_out lease.Recalled h = refl
 held_out lease.Releasing h = refl
 
-first_of_two : (a b : Bool) → a && b ≡ true → a ≡ true
+pub first_of_two : (a b : Bool) → a && b ≡ true → a ≡ true
 first_of_two true b h = refl
 first_of_two false b h = absurd (cc h)
 
@@ -120,7 +120,7 @@ facts_granted m left page epoch stamp is f = subst (λ (b : Bool). LeaseFacts (s
     above : 1 ≤ epoch
     above = grind (arith, nat_tests)
 
-second_of_two : (a b : Bool) → a && b ≡ true → b ≡ true
+pub second_of_two : (a b : Bool) → a && b ≡ true → b ≡ true
 second_of_two true b h = h
 second_of_two false b h = absurd (cc h)
 
@@ -210,8 +210,8 @@ lease_moves = record {
   image = λ w image held same. image_leases w _;
   fresh_page = λ w page is came f. facts_fresh w.leases w.left page.0 (second_of_two (nat_lt 1024 page.0) (nat_eq (lease_of w.leases page.0).epoch 0) is) f;
   fresh_none = λ w f. f;
-  recall = λ w page epoch f. facts_recalled w.leases w.left page epoch f;
-  give_back = λ w page is f. facts_back w page (first_of_two (is_recalled (lease_of w.leases page).state) _ is) f;
+  recall = λ w page epoch came f. facts_recalled w.leases w.left page epoch f;
+  give_back = λ w page is came f. facts_back w page (first_of_two (is_recalled (lease_of w.leases page).state) _ is) f;
   release = λ w page epoch is f. facts_over w page epoch is f;
   path = λ w path f. f;
   end = λ w t is f. f;

@@ -5,6 +5,7 @@ mod Moves
 mod StepMoves
 mod GoesLemmas
 mod LackLemmas
+mod PlaceLemmas
 mod StepGoes
 mod FactLemmas
 mod PageLemmas
@@ -28,3 +29,8 @@ mod EndedLemmas
 mod CauseLemmas
 mod EpochLemmas
 mod StageLemmas
+mod KeptLemmas
+mod SaidLemmas
+mod DoneLemmas
+mod RestLemmas
+mod BecauseLemmas

@@ -77,11 +77,13 @@ ended_in w session own committed =
     with_session (record w { clock = told (ticked w.clock); log = appended w.log (next_group w (end_of (txn_numbered w own.number) committed)) }) session
     (record own { progress = Ended committed (length w.log.groups + 1) })
 
--- What makes a writer's state move that only a message can bring.
+-- What moves a writer only at a message: an acknowledgement, a grant, a fresh page, and that a page is recalled or given
+-- back.
 pub data Cause : Type 0 where
   Acked : (store seq : ℕ) → Cause
   Granted : (page : Page) (epoch : ℕ) (stamp : Stamp) (tags : List Tag) (vector : List VectorEntry) → Cause
   Fresh : (page : Page) → Cause
+  GivenBack : (page : ℕ) → Cause
 
 -- Where anything may come.
 abbrev pub AnyCause : Work → Cause → Type 0
@@ -106,8 +108,8 @@ pub record ClosedFor (G : Work → Cause → Type 0) (R : Work → Work → Type
   pub image : (w : Work) (image : Image) → is_held (lease_of w.leases image.page.0).state ≡ true → image.stamp.0 ≡ (lease_of w.leases image.page.0).stamp.0 → R w (with_image w image)
   pub fresh_page : (w : Work) (page : Page) → nat_lt 1024 page.0 && nat_eq (lease_of w.leases page.0).epoch 0 ≡ true → G w (Fresh page) → R w (fresh_taken w page)
   pub fresh_none : (w : Work) → R w (record w { fresh = w.fresh + 1; spent = true })
-  pub recall : (w : Work) (page epoch : ℕ) → R w (record w { leases = recalled w.leases page epoch })
-  pub give_back : (w : Work) (page : ℕ) → is_ready (lease_of w.leases page) (settled w) ≡ true → R w (gives_back w page)
+  pub recall : (w : Work) (page epoch : ℕ) → G w (GivenBack page) → R w (record w { leases = recalled w.leases page epoch })
+  pub give_back : (w : Work) (page : ℕ) → is_ready (lease_of w.leases page) (settled w) ≡ true → G w (GivenBack page) → R w (gives_back w page)
   pub release : (w : Work) (page epoch : ℕ) → is_releasing (lease_of w.leases page).state && nat_eq (lease_of w.leases page).epoch epoch ≡ true → R w (record w { leases = released w.leases page epoch; left = fin.remove w.left page })
   pub path : (w : Work) (path : List Page) → R w (uses w path)
   -- fates

@@ -297,8 +297,8 @@ page_moves = record {
         one_each = more.one_each;
       };
   fresh_none = λ w f. f;
-  recall = λ w page epoch f. leases_on w.leases (desk.recalled w.leases page epoch) w.pool.images w.stock (has_recalled w.leases page epoch) f;
-  give_back = λ w page is f. page_gone w page f;
+  recall = λ w page epoch came f. leases_on w.leases (desk.recalled w.leases page epoch) w.pool.images w.stock (has_recalled w.leases page epoch) f;
+  give_back = λ w page is came f. page_gone w page f;
   release = λ w page epoch is f. leases_on w.leases (desk.released w.leases page epoch) w.pool.images w.stock (has_released w.leases page epoch) f;
   path = λ w path f. images_new w.leases w.pool.images (used_all path w.pool.images) w.stock (had_path w.leases path w.pool.images) f;
   end = λ w t is f. f;

@@ -29,7 +29,7 @@ SessionMoves a b = Known a → Known b
 
 -- ---- the log goes on
 
-found_left : (xs ys : List Group) (i : ℕ) (g : Group) → slice_get xs i ≡ Some g → slice_get (xs ++ ys) i ≡ Some g
+pub found_left : (xs ys : List Group) (i : ℕ) (g : Group) → slice_get xs i ≡ Some g → slice_get (xs ++ ys) i ≡ Some g
 found_left [] ys i g is = absurd (cc is)
 found_left (x ∷ xs) ys zero g is = is
 found_left (x ∷ xs) ys (suc i) g is = found_left xs ys i g is
@@ -49,7 +49,7 @@ fits_stay a b number Active goes f = tt
 fits_stay a b number (Undoing left) goes f = tt
 fits_stay a b number (Ended committed seq) goes f = end_stays a b seq number committed goes f
 
-durable_stays : (a b : Log) (number : ℕ) → LogGoes a b → EndIsDurable a number → EndIsDurable b number
+pub durable_stays : (a b : Log) (number : ℕ) → LogGoes a b → EndIsDurable a number → EndIsDurable b number
 durable_stays a b number goes e = (e.0, record { seq = e.1.seq; at = end_stays a b e.1.seq number e.0 goes e.1.at; is_durable = omega (arith, e.1.is_durable, goes.durable) })
 
 log_goes : (a b : Log) (begun : ℕ) (sessions : Sessions) → LogGoes a b → SessionFacts a begun sessions → SessionFacts b begun sessions
@@ -215,8 +215,8 @@ session_facts = record {
   image = λ w image held same. image_known w _;
   fresh_page = λ w page is came f. f;
   fresh_none = λ w f. f;
-  recall = λ w page epoch f. f;
-  give_back = λ w page is f. f;
+  recall = λ w page epoch came f. f;
+  give_back = λ w page is came f. f;
   release = λ w page epoch is f. f;
   path = λ w path f. f;
   end = λ w t is f. f;

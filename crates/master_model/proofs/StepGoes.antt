@@ -33,6 +33,7 @@ use Rattle.master_model.specs.Facts.{Brings}
 use Rattle.master_model.specs.Goes.{LogGoes, ClockGoes, EpochsGo, EndsGo, WorkGoes, LifeGoes, JoinedGoes, Goes}
 use Rattle.master_model.proofs.Moves.{Closed}
 use Rattle.master_model.proofs.StepMoves.{note_moves, command_moves}
+use Rattle.master_model.proofs.PlaceLemmas.{Places, places_both, places_stay, place_moves}
 use Rattle.master_model.proofs.GoesLemmas.{ClockMoves, log_stays, log_both, log_moves, clock_stays, clock_both, clock_moves, epochs_stay, epochs_both, epoch_moves}
 
 -- ---- sets grow
@@ -49,7 +50,7 @@ recovered_inserted s t q h = contains-insert writer_cmp-total s t q ∙ either_r
 
 -- ---- what else a writer has
 
-record RestGoes (old new : Work) : Type 0 where
+pub record RestGoes (old new : Work) : Type 0 where
   pub number : new.number ≡ old.number
   pub stores : new.stores ≡ old.stores
   pub ends : EndsGo old.ended new.ended
@@ -79,7 +80,7 @@ image_rest : (w : Work) (o : Option (List Image)) → RestGoes w (with_images w 
 image_rest w None = rest_same w w refl refl refl refl refl
 image_rest w (Some images) = rest_same w _ refl refl refl refl refl
 
-rest_moves : Closed RestGoes
+pub rest_moves : Closed RestGoes
 rest_moves = record {
   none = λ w. rest_same w w refl refl refl refl refl;
   both = rest_both;
@@ -93,8 +94,8 @@ rest_moves = record {
   image = λ w image held same. image_rest w _;
   fresh_page = λ w page is came. record { number = refl; stores = refl; ends = λ t h. h; begun = omega arith; fresh = omega arith };
   fresh_none = λ w. record { number = refl; stores = refl; ends = λ t h. h; begun = omega arith; fresh = omega arith };
-  recall = λ w page epoch. rest_same w _ refl refl refl refl refl;
-  give_back = λ w page is. rest_same w _ refl refl refl refl refl;
+  recall = λ w page epoch came. rest_same w _ refl refl refl refl refl;
+  give_back = λ w page is came. rest_same w _ refl refl refl refl refl;
   release = λ w page epoch is. rest_same w _ refl refl refl refl refl;
   path = λ w path. rest_same w _ refl refl refl refl refl;
   end = λ w t is. record { number = refl; stores = refl; ends = ends_inserted w.ended t; begun = omega arith; fresh = omega arith };
@@ -108,20 +109,21 @@ rest_moves = record {
   free = λ w session own committed seq is at durable. rest_same w _ refl refl refl refl refl;
 }
 
-work_goes : (a b : Work) → LogGoes a.log b.log → ClockGoes a.clock b.clock → EpochsGo a.leases b.leases → RestGoes a b → WorkGoes a b
-work_goes a b log clock epochs rest = record {
+work_goes : (a b : Work) → LogGoes a.log b.log → ClockGoes a.clock b.clock → EpochsGo a.leases b.leases → Places a b → RestGoes a b → WorkGoes a b
+work_goes a b log clock epochs places rest = record {
   number = rest.number;
   stores = rest.stores;
   log_goes = log;
   clock_goes = clock;
   epochs = epochs;
+  places = places;
   ends = rest.ends;
   begun = rest.begun;
   fresh = rest.fresh;
 }
 
 pub work_stays : (w : Work) → WorkGoes w w
-work_stays w = work_goes w w (log_stays w.log) (clock_stays w.clock) (epochs_stay w.leases) (rest_same w w refl refl refl refl refl)
+work_stays w = work_goes w w (log_stays w.log) (clock_stays w.clock) (epochs_stay w.leases) (places_stay w.leases w.left) (rest_same w w refl refl refl refl refl)
 
 pub work_both : (a b c : Work) → WorkGoes a b → WorkGoes b c → WorkGoes a c
 work_both a b c h k = record {
@@ -130,6 +132,7 @@ work_both a b c h k = record {
   log_goes = log_both a.log b.log c.log h.log_goes k.log_goes;
   clock_goes = clock_both a.clock b.clock c.clock h.clock_goes k.clock_goes;
   epochs = epochs_both a.leases b.leases c.leases h.epochs k.epochs;
+  places = places_both a.leases b.leases c.leases a.left b.left c.left h.places k.places;
   ends = λ t x. k.ends t (h.ends t x);
   begun = omega (arith, h.begun, k.begun);
   fresh = omega (arith, h.fresh, k.fresh);
@@ -334,8 +337,8 @@ goes_to : (s : State) (l : Life) (o : Option Life) → s.life ≡ o → JoinedGo
 goes_to s l o is h = record { number = refl; boot = refl; stores = refl; life = subst (λ (x : Option Life). JoinedGoes x (Some l)) (sym is) h }
 
 -- each part of the work, from an old writer's to a new one's
-moved_work : (a b : Work) → IsVector a.clock.heard → LogGoes a.log b.log → ClockMoves a.clock b.clock → EpochsGo a.leases b.leases → RestGoes a b → WorkGoes a b
-moved_work a b v log clock epochs rest = work_goes a b log (clock v).1 epochs rest
+moved_work : (a b : Work) → IsVector a.clock.heard → LogGoes a.log b.log → ClockMoves a.clock b.clock → EpochsGo a.leases b.leases → Places a b → RestGoes a b → WorkGoes a b
+moved_work a b v log clock epochs places rest = work_goes a b log (clock v).1 epochs places rest
 
 joins_goes : (s : State) (stamp : ℕ) (n : Note) → s.life ≡ None → Goes s (does.joins s stamp n)
 joins_goes s stamp (note.Registered boot writer) is = by (nat_eq boot s.boot)
@@ -362,6 +365,7 @@ step_goes s m v brings = by s.life refl v
               (log_moves.both l.work heard.work new.work (log_moves.hears_stamp l.work m.stamp.0 brings.1) (note_moves log_moves heard m.from m.stamp.0 m.note brings.0))
               (clock_moves.both l.work heard.work new.work (clock_moves.hears_stamp l.work m.stamp.0 brings.1) (note_moves clock_moves heard m.from m.stamp.0 m.note brings.0))
               (epoch_moves.both l.work heard.work new.work (epoch_moves.hears_stamp l.work m.stamp.0 brings.1) (note_moves epoch_moves heard m.from m.stamp.0 m.note brings.0))
+              (place_moves.both l.work heard.work new.work (place_moves.hears_stamp l.work m.stamp.0 brings.1) (note_moves place_moves heard m.from m.stamp.0 m.note brings.0))
               (rest_moves.both l.work heard.work new.work (rest_moves.hears_stamp l.work m.stamp.0 brings.1) (note_moves rest_moves heard m.from m.stamp.0 m.note brings.0));
           recovered = note_known heard m.from m.stamp.0 m.note;
           fenced = λ h. absurd (cc (fenced, h));
@@ -379,7 +383,7 @@ command_goes s session asked v = by s.life refl v
     in_life l false is fenced v =
         let new : Life = (does.commanded l session asked).life in
         goes_to s new (Some l) is (record {
-          work_goes = moved_work l.work new.work v (command_moves log_moves l session asked) (command_moves clock_moves l session asked) (command_moves epoch_moves l session asked) (command_moves rest_moves l session asked);
+          work_goes = moved_work l.work new.work v (command_moves log_moves l session asked) (command_moves clock_moves l session asked) (command_moves epoch_moves l session asked) (command_moves place_moves l session asked) (command_moves rest_moves l session asked);
           recovered = knows_same l.recovered new.recovered (command_known l session asked);
           fenced = λ h. absurd (cc (fenced, h));
         })

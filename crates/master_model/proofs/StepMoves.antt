@@ -47,7 +47,7 @@ use Rattle.master_model.specs.Recovery as recovery
 use Rattle.master_model.specs.Recovery.{LifeEffect, LifeAnswer, WrittenRow, hears_group, hears_groups, in_turn, is_next}
 use Rattle.master_model.specs.Step as does
 use Rattle.master_model.specs.Facts.{Brought, BringsNote, GroupBrought}
-use Rattle.master_model.proofs.Moves.{AnyCause, Cause, Acked, Granted, Fresh, Closed, ClosedFor, with_ack_of, without_ended, fresh_taken, group_moves, begin_moves, get_moves, put_moves, commit_moves, abort_moves, undo_moves}
+use Rattle.master_model.proofs.Moves.{AnyCause, Cause, Acked, Granted, Fresh, GivenBack, Closed, ClosedFor, with_ack_of, without_ended, fresh_taken, group_moves, begin_moves, get_moves, put_moves, commit_moves, abort_moves, undo_moves}
 
 -- What is heard of a group is a vector.
 single_most : (writer stamp w most : ℕ) → stamp ≤ most → stamp_of (single writer stamp) w ≤ most
@@ -114,21 +114,35 @@ Allows G w from (note.Grant writer page epoch of tags vector) = IsFor w writer �
 Allows G w from (note.FreshIs writer nth page) = AllowsFresh G w writer page
 Allows G w from other = Unit {0}
 
+-- At an acknowledgement and at a recall pages may be given back.
+abbrev pub AllBack : (Work → Cause → Type 0) → Type 0
+AllBack G = (w : Work) (page : ℕ) → G w (GivenBack page)
+
+abbrev pub Backs : (Work → Cause → Type 0) → Note → Type 0
+Backs G (note.Ack writer seq) = AllBack G
+Backs G (note.Recall writer page epoch) = AllBack G
+Backs G other = Unit {0}
+
+pub backs_any : (G : Work → Cause → Type 0) → AllBack G → (n : Note) → Backs G n
+backs_any G back (note.Ack writer seq) = back
+backs_any G back (note.Recall writer page epoch) = back
+backs_any G back other = tt
+
 module _ {G : Work → Cause → Type 0} {R : Work → Work → Type 0} (c : ClosedFor G R) where
   -- ---- pages
 
-  ready_moves : (w : Work) (page : ℕ) → R w (leases.releases_ready w page).0
-  ready_moves w page = by (is_ready (lease_of w.leases page) (settled w)) refl
+  ready_moves : AllBack G → (w : Work) (page : ℕ) → R w (leases.releases_ready w page).0
+  ready_moves back w page = by (is_ready (lease_of w.leases page) (settled w)) refl
     where
       by : (b : Bool) → is_ready (lease_of w.leases page) (settled w) ≡ b → R w (leases.releases_if w page b).0
-      by true is = c.give_back w page is
+      by true is = c.give_back w page is (back w page)
       by false is = c.none w
 
-  all_move : (ps : List ℕ) (w : Work) → R w (leases.releases_all ps w).0
-  all_move [] w = c.none w
-  all_move (p ∷ ps) w =
+  all_move : AllBack G → (ps : List ℕ) (w : Work) → R w (leases.releases_all ps w).0
+  all_move back [] w = c.none w
+  all_move back (p ∷ ps) w =
       let one : Work = (leases.releases_ready w p).0 in
-      c.both w one (leases.releases_all ps one).0 (ready_moves w p) (all_move ps one)
+      c.both w one (leases.releases_all ps one).0 (ready_moves back w p) (all_move back ps one)
 
   grant_moves : (w : Work) (page : Page) (epoch : ℕ) (stamp : Stamp) (tags : List Tag) (vector : List VectorEntry) → Brought vector → stamp.0 ≤ 2 ^ 63 - 1
       → G w (Granted page epoch stamp tags vector) → R w (leases.on_grant w page epoch stamp tags vector).0
@@ -177,13 +191,13 @@ module _ {G : Work → Cause → Type 0} {R : Work → Work → Type 0} (c : Clo
       by (Some old) = c.none w
       by None = new (is_held (lease_of w.leases image.page.0).state) (nat_eq image.stamp.0 (lease_of w.leases image.page.0).stamp.0) refl refl
 
-  recall_moves : (w : Work) (page epoch : ℕ) → R w (leases.on_recall w page epoch).0
-  recall_moves w page epoch = by (nat_eq (lease_of w.leases page).epoch epoch)
+  recall_moves : AllBack G → (w : Work) (page epoch : ℕ) → R w (leases.on_recall w page epoch).0
+  recall_moves back w page epoch = by (nat_eq (lease_of w.leases page).epoch epoch)
     where
       in_state : (l : Lease) → R w (leases.on_recall_in w page epoch l).0
       in_state lease.Held =
           let told : Work = record w { leases = recalled w.leases page epoch } in
-          c.both w told _ (c.recall w page epoch) (ready_moves told page)
+          c.both w told _ (c.recall w page epoch (back w page)) (ready_moves back told page)
       in_state lease.Releasing = c.none w
       in_state other = c.none w
 
@@ -204,15 +218,15 @@ module _ {G : Work → Cause → Type 0} {R : Work → Work → Type 0} (c : Clo
   AckIs w seq (LogStore store) = G w (Acked store seq)
   AckIs w seq other = Unit {0}
 
-  ack_moves : (w : Work) (from : Node) (seq : ℕ) → AckIs w seq from → R w (acks.on_ack w from seq).0
-  ack_moves w (LogStore store) seq came = by (nat_lt (durable w) (durable (with_ack_of w store seq))) refl
+  ack_moves : AllBack G → (w : Work) (from : Node) (seq : ℕ) → AckIs w seq from → R w (acks.on_ack w from seq).0
+  ack_moves back w (LogStore store) seq came = by (nat_lt (durable w) (durable (with_ack_of w store seq))) refl
     where
       by : (b : Bool) → nat_lt (durable w) (durable (with_ack_of w store seq)) ≡ b → R w (acks.on_more (with_ack_of w store seq) (durable w) b).0
       by false is = c.acks w store seq is came
       by true is =
           let told : Work = without_ended (with_ack_of w store seq) (durable w) in
-          c.both w told _ (c.acks_more w store seq is came) (all_move (leases.recalled_pages (with_ack_of w store seq)) told)
-  ack_moves w other seq came = c.none w
+          c.both w told _ (c.acks_more w store seq is came) (all_move back (leases.recalled_pages (with_ack_of w store seq)) told)
+  ack_moves back w other seq came = c.none w
 
   want_moves : (w : Work) (wanted : ℕ) → R w (acks.on_want w wanted).0
   want_moves w wanted = by (nat_lt (last_stamp w.log.groups) wanted) (has_numbers w 1) (has_stamps w 1) refl refl
@@ -330,31 +344,31 @@ module _ {G : Work → Cause → Type 0} {R : Work → Work → Type 0} (c : Clo
   fenced_work l None = refl
   fenced_work l (Some e) = refl
 
-  pub note_moves_for : (l : Life) (from : Node) (stamp : ℕ) (n : Note) → BringsNote n → Allows G l.work from n → R l.work (does.on_note l from stamp n).0.work
-  note_moves_for l from stamp (note.Ack writer seq) h k = own_moves l writer _ (λ is. ack_moves l.work from seq (ack_for l.work writer seq from k is))
-  note_moves_for l from stamp (note.Sealed writer most) h k = by (nat_eq writer.0 (writer_of l.work))
+  pub note_moves_for : (l : Life) (from : Node) (stamp : ℕ) (n : Note) → BringsNote n → Allows G l.work from n → Backs G n → R l.work (does.on_note l from stamp n).0.work
+  note_moves_for l from stamp (note.Ack writer seq) h k b = own_moves l writer _ (λ is. ack_moves b l.work from seq (ack_for l.work writer seq from k is))
+  note_moves_for l from stamp (note.Sealed writer most) h k b = by (nat_eq writer.0 (writer_of l.work))
     where
-      by : (b : Bool) → R l.work (does.on_sealed_own l b).0.work
+      by : (is : Bool) → R l.work (does.on_sealed_own l is).0.work
       by true = c.none l.work
       by false = c.none l.work
-  note_moves_for l from stamp (note.Grant writer page epoch of tags vector) h k = own_moves l writer _ (λ is. grant_moves l.work page epoch of tags vector h.0 h.1 (k is))
-  note_moves_for l from stamp (note.FreshIs writer nth page) h k = own_moves l writer _ (λ is. fresh_moves l.work nth page (fresh_for l.work writer page k is))
-  note_moves_for l from stamp (note.Recall writer page epoch) h k = own_moves l writer _ (λ is. recall_moves l.work page.0 epoch)
-  note_moves_for l from stamp (note.Released writer page epoch) h k = own_moves l writer _ (λ is. released_moves l.work page.0 epoch)
-  note_moves_for l from stamp (note.PageIs image) h k = page_moves l.work image
-  note_moves_for l from stamp (note.Ask txn master) h k = ask_moves l.work txn master
-  note_moves_for l from stamp (note.Fate txn ended vector) h k = fate_moves l.work txn ended vector h
-  note_moves_for l from stamp (note.Roster entries) h k =
+  note_moves_for l from stamp (note.Grant writer page epoch of tags vector) h k b = own_moves l writer _ (λ is. grant_moves l.work page epoch of tags vector h.0 h.1 (k is))
+  note_moves_for l from stamp (note.FreshIs writer nth page) h k b = own_moves l writer _ (λ is. fresh_moves l.work nth page (fresh_for l.work writer page k is))
+  note_moves_for l from stamp (note.Recall writer page epoch) h k b = own_moves l writer _ (λ is. recall_moves b l.work page.0 epoch)
+  note_moves_for l from stamp (note.Released writer page epoch) h k b = own_moves l writer _ (λ is. released_moves l.work page.0 epoch)
+  note_moves_for l from stamp (note.PageIs image) h k b = page_moves l.work image
+  note_moves_for l from stamp (note.Ask txn master) h k b = ask_moves l.work txn master
+  note_moves_for l from stamp (note.Fate txn ended vector) h k b = fate_moves l.work txn ended vector h
+  note_moves_for l from stamp (note.Roster entries) h k b =
       let kept : Life = record l { roster = entries; recovery = does.over_by l.recovery (recovery.entry_of entries (does.writer_under l.recovery)) } in
       subst (R l.work) (sym (fenced_work kept (recovery.entry_of entries (writer_of l.work)))) (c.none l.work)
-  note_moves_for l from stamp (note.Want None) h k = c.none l.work
-  note_moves_for l from stamp (note.Want (Some writer)) h k = own_moves l writer _ (λ is. want_moves l.work stamp)
-  note_moves_for l from stamp (note.SealedAt writer most) h k = sealed_moves l writer.0 most from
-  note_moves_for l from stamp (note.Closed writer most store) h k = closed_moves l writer.0 store most
-  note_moves_for l from stamp (note.Groups writer groups) h k = recovering_moves l writer.0 _ (λ r. scanned_moves l r writer.0 groups r.stage h)
-  note_moves_for l from stamp (note.Taken writer part) h k = taken_moves l writer.0 part
-  note_moves_for l from stamp (note.Recovered writer vector) h k = c.none l.work
-  note_moves_for l from stamp other h k = c.none l.work
+  note_moves_for l from stamp (note.Want None) h k b = c.none l.work
+  note_moves_for l from stamp (note.Want (Some writer)) h k b = own_moves l writer _ (λ is. want_moves l.work stamp)
+  note_moves_for l from stamp (note.SealedAt writer most) h k b = sealed_moves l writer.0 most from
+  note_moves_for l from stamp (note.Closed writer most store) h k b = closed_moves l writer.0 store most
+  note_moves_for l from stamp (note.Groups writer groups) h k b = recovering_moves l writer.0 _ (λ r. scanned_moves l r writer.0 groups r.stage h)
+  note_moves_for l from stamp (note.Taken writer part) h k b = taken_moves l writer.0 part
+  note_moves_for l from stamp (note.Recovered writer vector) h k b = c.none l.work
+  note_moves_for l from stamp other h k b = c.none l.work
 
   -- ---- the command of a recovery
 
@@ -427,11 +441,11 @@ any_fresh : (w : Work) (writer : Writer) (page : Option Page) → AllowsFresh An
 any_fresh w writer None = tt
 any_fresh w writer (Some page) = λ is. tt
 
-any_allowed : (w : Work) (from : Node) (n : Note) → Allows AnyCause w from n
+pub any_allowed : (w : Work) (from : Node) (n : Note) → Allows AnyCause w from n
 any_allowed w from (note.Ack writer seq) = any_ack w writer seq from
 any_allowed w from (note.Grant writer page epoch of tags vector) = λ is. tt
 any_allowed w from (note.FreshIs writer nth page) = any_fresh w writer page
 any_allowed w from other = tt
 
 pub note_moves : {R : Work → Work → Type 0} (c : Closed R) (l : Life) (from : Node) (stamp : ℕ) (n : Note) → BringsNote n → R l.work (does.on_note l from stamp n).0.work
-note_moves c l from stamp n h = note_moves_for c l from stamp n h (any_allowed l.work from n)
+note_moves c l from stamp n h = note_moves_for c l from stamp n h (any_allowed l.work from n) (backs_any AnyCause (λ w page. tt) n)

@@ -367,13 +367,13 @@ tag_moves = record {
     record { had = λ t at. has_granted w.leases page.0 1 (record { 0 = 0 }) t.page (h.2.had t at); binds = h.2.binds },
   );
   fresh_none = λ w h. (h.0, h.1, record { had = h.2.had; binds = h.2.binds });
-  recall = λ w page epoch h. (
-    page_moves.recall w page epoch h.0,
+  recall = λ w page epoch came h. (
+    page_moves.recall w page epoch tt h.0,
     h.1,
     record { had = λ t at. has_recalled w.leases page epoch t.page (h.2.had t at); binds = h.2.binds },
   );
-  give_back = λ w page is h. (
-    page_moves.give_back w page is h.0,
+  give_back = λ w page is came h. (
+    page_moves.give_back w page is tt h.0,
     h.1,
     let all = gone_tags w page h.2 in record { had = λ t at. (all t at).0; binds = λ t at. (all t at).1 },
   );

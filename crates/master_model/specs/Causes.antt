@@ -1,5 +1,6 @@
 -- What a step's changes come from: by the message that came, and by nothing else.
-use Rattle.std.specs.Prelude.{◌≡◌, ◌⊎◌, ℕ, Bool, false, List, []}
+use Rattle.std.specs.Prelude.{◌≡◌, ◌⊎◌, ℕ, Bool, false, List, [], ◌∷◌}
+use Rattle.std.specs.FinMap as fin
 use Rattle.std.specs.declared.option.Option.{Option}
 use Rattle.std.specs.declared.option.Option.TheVariants.{None, Some}
 use Rattle.tm_data.specs.declared.transaction.Stamp.{Stamp}
@@ -7,11 +8,13 @@ use Rattle.tm_data.specs.declared.transaction.Writer.{Writer}
 use Rattle.tm_data.specs.declared.vector.VectorEntry.{VectorEntry}
 use Rattle.tm_base.specs.declared.message.Message.{Message}
 use Rattle.tm_base.specs.declared.message.Node.TheVariants.{LogStore}
+use Rattle.tm_base.specs.declared.message.Note.{Note}
 use Rattle.tm_base.specs.declared.message.Note.TheVariants as note
 use Rattle.tm_base.specs.declared.message.RosterEntry.{RosterEntry}
 use Rattle.tm_base.specs.declared.message.Tag.{Tag}
 use Rattle.log_writer.specs.Log.{is_marked}
 use Rattle.lease_desk.specs.Desk.{lease_of}
+use Rattle.master_model.specs.declared.left.Left.{Left}
 use Rattle.master_model.specs.State.{Life, State, joined, page_named}
 use Rattle.master_model.specs.Step.{new_life}
 
@@ -76,3 +79,23 @@ EpochCame (Some l) m page epoch = GrantsAt m l.work.log.writer page epoch ⊎ (G
 abbrev pub roster_in : Option Life → List RosterEntry
 roster_in None = []
 roster_in (Some l) = l.roster
+
+-- ---- a page that is given back
+
+-- What is kept of it.
+abbrev pub left_in : Option Life → ℕ → Option Left
+left_in None page = None
+left_in (Some l) page = fin.get l.work.left page
+
+-- Its release, with what is told of it.
+abbrev pub release_note : Writer → ℕ → Left → Note
+release_note writer page l = note.Release writer (page_named page) l.epoch l.stamp l.tags l.vector
+
+-- Some message says it.
+abbrev pub IsSent : Note → List Message → Type 0
+IsSent n [] = ⊥
+IsSent n (m ∷ ms) = (m.note ≡ n) ⊎ IsSent n ms
+
+abbrev pub LeftSent : Option Life → List Message → ℕ → Left → Type 0
+LeftSent None messages page body = ⊥
+LeftSent (Some l) messages page body = IsSent (release_note l.work.log.writer page body) messages

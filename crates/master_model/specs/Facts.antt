@@ -26,7 +26,7 @@ use Rattle.log_writer.specs.Log.{Log, durable_seq, numbered}
 use Rattle.lease_desk.specs.declared.lease.Lease.{Lease}
 use Rattle.lease_desk.specs.declared.lease.Lease.TheVariants as lease
 use Rattle.lease_desk.specs.declared.lease.PageLease.{PageLease}
-use Rattle.lease_desk.specs.Desk.{Leases, is_releasing, lease_of}
+use Rattle.lease_desk.specs.Desk.{Leases, is_ready, is_releasing, lease_of}
 use Rattle.master_model.specs.declared.left.Left.{Left}
 use Rattle.master_model.specs.declared.session.Own.{Own}
 use Rattle.master_model.specs.declared.session.Progress.{Progress}
@@ -35,7 +35,7 @@ use Rattle.master_model.specs.Tags.{PageTag, same_txn}
 use Rattle.master_model.specs.Fates.{is_ended, is_own}
 use Rattle.master_model.specs.Ends.{end_of}
 use Rattle.master_model.specs.Acks.{ends_in}
-use Rattle.master_model.specs.State.{Work, Life, State}
+use Rattle.master_model.specs.State.{Work, Life, State, settled}
 
 -- ---- what a message brings
 
@@ -288,3 +288,17 @@ GrantsBegun w other = Unit {0}
 abbrev pub GrantIsBegun : Option Life → Note → Type 0
 GrantIsBegun None n = Unit {0}
 GrantIsBegun (Some l) n = GrantsBegun l.work n
+
+-- ---- recalled pages
+
+-- A page isn't recalled while its last change is durable: it would have been given back. That change's stamp was heard.
+pub record Rests (l : PageLease) (durable scalar : ℕ) : Type 0 where
+  pub waits : is_ready l durable ≡ false
+  pub heard : l.stamp.0 ≤ scalar
+
+abbrev pub PagesRest : Work → Type 0
+PagesRest w = (page : ℕ) → Rests (lease_of w.leases page) (settled w) w.clock.scalar
+
+abbrev pub LifeRests : Option Life → Type 0
+LifeRests None = Unit {0}
+LifeRests (Some l) = PagesRest l.work

@@ -1,5 +1,5 @@
 -- When a master's commands answer what.
-use Rattle.std.specs.Prelude.{◌≡◌, ◌⊎◌, ℕ, true, List, Ok, Bool, false, ◌≤◌}
+use Rattle.std.specs.Prelude.{◌≡◌, ◌⊎◌, ℕ, true, List, [], ◌∷◌, Ok, Bool, false, ◌≤◌, ◌<◌, ◌+◌, ◌-◌, ◌^◌, length, reverse, take}
 use Rattle.std.specs.List.{AllByRecursion}
 use Rattle.std.specs.FinMap.{FinMap}
 use Rattle.std.specs.FinMap as fin
@@ -16,15 +16,17 @@ use Rattle.tm_base.specs.declared.message.Node.TheVariants.{LockManager}
 use Rattle.tm_base.specs.declared.reply.Reply.{Reply}
 use Rattle.tm_base.specs.declared.reply.Reply.TheVariants as reply
 use Rattle.log_writer.specs.Log.{Log}
-use Rattle.page_model.specs.Splits.{images_on}
-use Rattle.page_model.specs.Tree.{path_of}
+use Rattle.tm_base.specs.declared.message.Tag.{Tag}
+use Rattle.page_model.specs.Splits.{images_on, is_full, full_pages, page_above}
+use Rattle.page_model.specs.Tree.{level_of, path_of}
 use Rattle.master_model.specs.declared.session.Own.{Own}
-use Rattle.master_model.specs.declared.session.Progress.TheVariants.{Ended}
-use Rattle.master_model.specs.Tags.{same_txn}
-use Rattle.master_model.specs.State.{Work, Life, durable}
+use Rattle.master_model.specs.declared.session.Progress.TheVariants.{Active, Ended}
+use Rattle.master_model.specs.Tags.{foreign_on, others_on, same_txn, tags_on}
+use Rattle.master_model.specs.State.{Work, Life, durable, writer_of}
 use Rattle.master_model.specs.Fates.{is_ended}
 use Rattle.master_model.specs.Paths.{here, last_of, row_at}
 use Rattle.master_model.specs.Reads.{txn_numbered}
+use Rattle.master_model.specs.Writes.{first_missing, fresh_needed, row_put}
 use Rattle.master_model.specs.Facts.{DurableEnd}
 
 -- ---- what a get reads
@@ -97,3 +99,76 @@ SaysDurableIn (Some l) said = SaysDurable l.work.log said
 SaysDurableIn None (reply.Committed t) = ⊥
 SaysDurableIn None (reply.Aborted t) = ⊥
 SaysDurableIn None other = Unit {0}
+
+-- ---- when a get and a put are done
+
+-- A table that there is, and a key that may be one.
+pub record IsKeyOf (table : ℕ) (key : List ℕ) : Type 0 where
+  pub from_one : 1 ≤ table
+  pub most : table ≤ 1024
+  pub short : length key ≤ 64
+
+-- A row binds nobody: it is the own transaction's, or one's that is known to have ended.
+abbrev pub RowIsFree : Work → Txn → Option Row → Type 0
+RowIsFree w own None = Unit {0}
+RowIsFree w own (Some row) = (same_txn row.txn own ≡ true) ⊎ (is_ended w row.txn ≡ true)
+
+-- A session whose transaction hasn't begun to end works on a key whose path is here, and whose row binds nobody.
+pub record Works (w : Work) (session table : ℕ) (key : List ℕ) : Type 0 where
+  pub own : Own
+  pub in_session : fin.get w.sessions session ≡ Some own
+  pub active : own.progress ≡ Active
+  pub named : IsKeyOf table key
+  pub path : List Page
+  pub on_path : path_of (here w) table key ≡ Ok path
+  pub leaf : Image
+  pub at_leaf : last_of None (images_on (here w) path) ≡ Some leaf
+  pub free : RowIsFree w (txn_numbered w own.number) (row_at leaf key)
+
+-- A get may lock the key: the leaf has room for one more shared lock.
+pub record MayGet (w : Work) (session table : ℕ) (key : List ℕ) : Type 0 where
+  pub works : Works w session table key
+  pub room : length (tags_on w.tags works.leaf.page.0) < 4096
+
+abbrev pub MayGetIn : Option Life → ℕ → ℕ → List ℕ → Type 0
+MayGetIn None session table key = ⊥
+MayGetIn (Some l) session table key = (l.fenced ≡ false) × MayGet l.work session table key
+
+-- Tags bind nobody: they are of transactions that are known to have ended.
+abbrev pub TagsAreFree : Work → List Tag → Type 0
+TagsAreFree w tags = AllByRecursion (λ (t : Tag). is_ended w t.txn ≡ true) tags
+
+-- The pages of a path from the leaf up.
+abbrev pub upward_of : Work → List Page → List Image
+upward_of w path = reverse (images_on (here w) path)
+
+-- The pages that split have their fresh pages in stock; a root that splits is below level 5.
+abbrev pub SplitsFit : List Page → Option Image → List Image → Type 0
+SplitsFit stock (Some above) splits = length splits ≤ length stock
+SplitsFit stock None [] = ⊥
+SplitsFit stock None (root ∷ below) = (level_of root.body < 5) × (length below + 2 ≤ length stock)
+
+-- A put of a row meets no lock, and fits: the shared locks on the key bind nobody, nor those of other writers on a leaf
+-- that splits; the fresh pages that it wants are in stock, and here as blank ones; and there are numbers and stamps for
+-- a group for each page that splits and one for the row.
+pub record RowFits (w : Work) (own : Txn) (row : Row) (leaf : Image) (path : List Page) : Type 0 where
+  pub readers : TagsAreFree w (others_on w.tags leaf.page.0 row.key own)
+  pub foreign : is_full row leaf.body ≡ true → TagsAreFree w (foreign_on w.tags leaf.page.0 (writer_of w))
+  pub splits : SplitsFit w.stock (page_above row (upward_of w path)) (reverse (full_pages row (upward_of w path)))
+  pub blank : first_missing (here w) (take (fresh_needed w path row) w.stock) ≡ None
+  pub numbers : length w.log.groups + length (full_pages row (upward_of w path)) + 1 < 2 ^ 32 - 1
+  pub stamps : w.clock.scalar + length (full_pages row (upward_of w path)) + 1 ≤ 2 ^ 63 - 1
+
+-- A value has at most 512 bytes, if there is one.
+abbrev pub IsShort : Option (List ℕ) → Type 0
+IsShort None = Unit {0}
+IsShort (Some value) = length value ≤ 512
+
+pub record MayPut (w : Work) (session table : ℕ) (key : List ℕ) (value : Option (List ℕ)) : Type 0 where
+  pub works : Works w session table key
+  pub short : IsShort value
+  pub fits : RowFits w (txn_numbered w works.own.number) (row_put key (txn_numbered w works.own.number) value (row_at works.leaf key)) works.leaf works.path
+
+abbrev pub MayPutIn : Option Life → ℕ → ℕ → List ℕ → Option (List ℕ) → Type 0
+MayPutIn None session table key value = ⊥
+MayPutIn (Some l) session table key value = (l.fenced ≡ false) × MayPut l.work session table key value

@@ -18,12 +18,15 @@ ghost use Rattle.master_model.specs.State.{Life, State, Work};
 ghost use Rattle.master_model.specs.Fates.{has_ended, is_open, is_own};
 ghost use Rattle.master_model.specs.Tags.{PageTag};
 ghost use Rattle.master_model.specs.Reads.{get};
-ghost use Rattle.master_model.specs.Replies.{PathIsHere, QuietOrAsking, Reads, SaysDurableIn, SaysEndIn};
+ghost use Rattle.master_model.specs.Replies.{MayGetIn, MayPutIn, PathIsHere, QuietOrAsking, Reads, SaysDurableIn, SaysEndIn};
 ghost use Rattle.master_model.specs.Step.{on_command, start, step, tick};
-ghost use Rattle.master_model.specs.Facts.{Brings, DurableEnd, EndIsDurable, Facts, GrantIsBegun, JoinsAfter, Lacks, OwnTags, TagsAreBegun, WorkFacts, own_txn};
+ghost use Rattle.master_model.specs.Facts.{Brings, DurableEnd, EndIsDurable, Facts, GrantIsBegun, JoinsAfter, Lacks, LifeRests, OwnTags, TagsAreBegun, WorkFacts, own_txn};
 ghost use Rattle.master_model.specs.Goes.{Goes};
-ghost use Rattle.master_model.specs.Told.{Sent};
-ghost use Rattle.master_model.specs.Causes.{AcknowledgesOwn, EpochCame, Joins, WriterStays, epoch_in, is_noted, roster_in};
+ghost use Rattle.master_model.specs.Told.{IsNamed, MessageFact, Sent};
+ghost use Rattle.master_model.specs.Causes.{AcknowledgesOwn, EpochCame, Joins, LeftSent, WriterStays, epoch_in, is_noted, left_in, roster_in};
+ghost use Rattle.master_model.specs.declared.left.Left.{Left};
+ghost use Rattle.master_model.specs.Refusals.{BecauseIn, IsInSession, RecoverIsSaid};
+ghost use Rattle.tm_data.specs.declared.transaction.Writer.{Writer};
 ghost use Rattle.master_model.specs.Stages.{RecoveryGoes, RecoveryIsAsked, StagesAreSaid};
 
 /// What holds in every state holds at the start, where nothing is known yet. It speaks of the start alone: refused is
@@ -84,8 +87,9 @@ pub fn what_is_lacked_is_of_the_log()
 
 /// How a message moves the state on: the log grows at its end alone and loses no acknowledgement, so what is durable
 /// stays so; scalar and heard stamps never fall, nor do epochs of pages and the numbers of transactions and requests;
-/// an end that is known stays known, and so does a writer's recovery; a fenced master stays fenced. Refused is a
-/// Roster that lifts the fence, a grant at a lower epoch, and an acknowledgement that takes another one back.
+/// in one epoch a lease goes from held over recalled and given back to none, and what is kept of a page that is being
+/// given back stays; an end that is known stays known, and so does a writer's recovery; a fenced master stays fenced.
+/// Refused is a Roster that lifts the fence, a grant at a lower epoch, and an acknowledgement that takes another one back.
 pub fn a_message_goes()
     ensures { (begun : ℕ) (s : State) (m : Message) → Facts begun s → Brings m → Goes s (step s m).0 }
 {}
@@ -228,4 +232,82 @@ pub fn the_roster_is_one_that_came()
     ensures start { (number boot stores : ℕ) → roster_in (start number boot stores).0.life ≡ [] }
     ensures message { (s : State) (m : Message) → (roster_in (step s m).0.life ≡ roster_in s.life) ⊎ (m.note ≡ note.Roster (roster_in (step s m).0.life)) }
     ensures command { (s : State) (session : ℕ) (asked : Command) → roster_in (on_command s session asked).0.life ≡ roster_in s.life }
+{}
+
+/// What is kept of a page that is being given back was kept before the step, or its Release was sent in it with just
+/// this body. A command gives no page back. So each body that is kept, and sent again, is one that was sent. Refused
+/// is a master that keeps another epoch than it tells, and one that keeps what it tells before it is sent.
+pub fn what_is_kept_of_a_page_was_sent()
+    ensures message { (s : State) (m : Message) (page : ℕ) (body : Left) → Brings m → left_in (step s m).0.life page ≡ Some body → (left_in s.life page ≡ Some body) ⊎ LeftSent (step s m).0.life (step s m).1 page body }
+    ensures command { (s : State) (session : ℕ) (asked : Command) (page : ℕ) (body : Left) → left_in (on_command s session asked).0.life page ≡ Some body → left_in s.life page ≡ Some body }
+{}
+
+/// A life is of this master, and deals out the pages to as many page stores, in every state. Refused is a master that
+/// joins as the number of its boot.
+pub fn a_life_is_of_its_master()
+    ensures start { (number boot stores : ℕ) → IsNamed (start number boot stores).0 }
+    ensures message { (begun : ℕ) (s : State) (m : Message) → Facts begun s → Brings m → IsNamed s → IsNamed (step s m).0 }
+    ensures command { (begun : ℕ) (s : State) (session : ℕ) (asked : Command) → Facts begun s → IsNamed s → IsNamed (on_command s session asked).0 }
+{}
+
+/// What is sent says what stays so: an Append's group stands in the log at its number; a Stable's number is durable; a
+/// RequestFresh has a number up to the one after the last that was answered; a page that was released is over in that
+/// epoch, or is being given back with just the body that was told; a transaction of which it was told that it has ended
+/// has a durable end. Refused is a Fate that says ended of a transaction whose end is logged and not durable.
+pub fn sent_messages_say_what_stays()
+    ensures { (begun : ℕ) (s : State) (messages : List Message) → Facts begun s → IsNamed s → Sent s messages → AllByRecursion (MessageFact s) messages }
+{}
+
+/// And it stays so, however the state goes on. It speaks of the relation alone: refused is one by which a page that was
+/// given back may be recalled once more in its epoch, and one by which what is kept of it may change. A step that does
+/// so is refused by `a_message_goes`.
+pub fn what_messages_say_stays()
+    ensures { (s t : State) (m : Message) → Goes s t → MessageFact s m → MessageFact t m }
+{}
+
+/// A get is answered a value where a session's transaction hasn't begun to end, the key's path is held, not recalled and
+/// in the pool, its row is the own transaction's or one's that is known to have ended, and the leaf has fewer than 4,096
+/// shared locks. Refused is a get that asks for a fate which is known, and one that refuses the last shared lock.
+pub fn a_get_that_meets_no_lock_is_answered()
+    ensures { (s : State) (session table : ℕ) (key : List ℕ) → MayGetIn s.life session table key → (value : Option (List ℕ)) × ((on_command s session (command.Get table key)).1 ≡ reply.Value value) }
+{}
+
+/// A put or a del that is so placed is done where the shared locks on its key bind nobody, nor those of other writers on
+/// a leaf that splits; where the pages that split have their fresh pages in stock and in the pool, and a root that
+/// splits is below the greatest level; and where group numbers and stamps last. Refused is a put that is locked by a
+/// reader that has ended, one that asks for one more fresh page than it wants, and one that stops one group too early.
+pub fn a_put_that_meets_no_lock_is_done()
+    ensures put { (s : State) (session table : ℕ) (key value : List ℕ) → MayPutIn s.life session table key (Some value) → (on_command s session (command.Put table key value)).1 ≡ reply.Done }
+    ensures del { (s : State) (session table : ℕ) (key : List ℕ) → MayPutIn s.life session table key None → (on_command s session (command.Del table key)).1 ≡ reply.Done }
+{}
+
+/// A recalled page goes once its last change is durable: in no state is there a recalled page of which that is so. So a
+/// page that is recalled when it may go is released in that step, and every other one in the step that makes its last
+/// change durable; its Release is sent then (`what_is_kept_of_a_page_was_sent`). Refused is a recall that waits for the
+/// next acknowledgement, and an acknowledgement that lets one page go and not the others.
+pub fn recalled_pages_go_once_they_may()
+    ensures start { (number boot stores : ℕ) → LifeRests (start number boot stores).0.life }
+    ensures message { (s : State) (m : Message) → Brings m → LifeRests s.life → LifeRests (step s m).0.life }
+    ensures command { (s : State) (session : ℕ) (asked : Command) → LifeRests s.life → LifeRests (on_command s session asked).0.life }
+{}
+
+/// What a session's command is answered has its cause, and asks for what it names: a master that hasn't joined or is
+/// fenced says that, and nothing else; a lock is of a transaction that isn't known to have ended, and is an own one or was
+/// told to be open; a fate is asked for, by one Ask, of another writer's transaction of which neither is known; a page
+/// that is awaited is asked for by one Request where it has no lease here, by one ReadPage where it is held, and not
+/// otherwise; a fresh page by one RequestFresh; a log store that is awaited hasn't acknowledged that group; and the
+/// other refusals hold of the session, table, key, value, leaf or transaction number that they name. It doesn't speak of
+/// the causes of Full height, Full groups and StampsSpent. Refused is a command that locks by a transaction
+/// which has ended, one that asks for a fate that was told, and one that awaits a log store which has the group.
+pub fn answers_have_their_causes()
+    ensures { (s : State) (session : ℕ) (asked : Command) → IsInSession asked → BecauseIn session s.life (on_command s session asked).0.life (on_command s session asked).2 (on_command s session asked).1 }
+{}
+
+/// So has the answer to a recovery: no writer is the own one, or one that the last roster doesn't name; a writer is
+/// recovered where the lock manager's word or the last roster says so, or its recovery is over; another recovery is under
+/// way; what is waited for is that of its stage after the step, where so many rows, at least one, are left to undo, or a
+/// log store lacks a group. Refused is a recovery that is taken for done because it is told, and one that waits for the
+/// close in each stage.
+pub fn a_recovery_answers_its_stage()
+    ensures { (s : State) (session : ℕ) (writer : Writer) → RecoverIsSaid s.life (on_command s session (command.Recover writer)).0.life writer (on_command s session (command.Recover writer)).1 }
 {}
