@@ -40,6 +40,7 @@ use Rattle.world_laws.specs.Kept.{IsOneOfThree, locks_kept, log_kept}
 use Rattle.world_laws.specs.Lives.{RunsAs}
 use Rattle.world_laws.specs.Messages.{MasterSays, Says, SaysFrom, View, view}
 use Rattle.world_laws.proofs.LockEnds.{Ends, OneEnd, ends_of, ended_here, ended_other}
+use Rattle.world_laws.proofs.LockLemmas.{after_one}
 use Rattle.world_laws.proofs.LockMoves.{EndMove, GivenEnd, LockMove, MoveLaws, kept, lock_holds, moves, same_move}
 use Rattle.world_laws.proofs.MarkLemmas.{reached_marked}
 use Rattle.world_laws.proofs.StoreLemmas.{get_here, set_other}
@@ -221,10 +222,6 @@ step_moves law w b m says h =
 record LeavesLocks (w : World) (m : Message) (k : Worked Message) : Type 0 where
   done : k.done ≡ true → kept k.disk ≡ next w m
   failed : k.done ≡ false → ((kept k.disk ≡ next w m) × (nat_lt (length w.lock_disk.records) (length k.disk.records) ≡ true)) ⊎ ((k.disk.records ≡ w.lock_disk.records) × (nat_lt (length w.lock_disk.records) (length k.disk.records) ≡ false))
-
-after_one : (s : State) (ms : List Message) (m : Message) → after s (ms ++ m ∷ []) ≡ (step (after s ms) m).0
-after_one s [] m = refl
-after_one s (x ∷ ms) m = after_one (step s x).0 ms m
 
 one_longer : (ms : List Message) (m : Message) → nat_lt (length ms) (length (ms ++ m ∷ [])) ≡ true
 one_longer ms m = let long : length (ms ++ m ∷ []) ≡ length ms + 1 = length-append ms (m ∷ []) in grind (arith, nat_tests)

@@ -36,7 +36,7 @@ use Rattle.world_laws.specs.Beside.{Beside, after_step, after_steps, durable_by,
 use Rattle.world_laws.specs.Invariant.{ApartDeliveryHolds, ApartStepHolds, BeginHolds, CommandHolds, LockDeliveryHolds, LockStepHolds, LogsHold, MasterDeliveryHolds, MasterTickHolds, StepKeeps, StoreDeliveryHolds, StoreStepHolds}
 use Rattle.world_laws.specs.Kept.{hard, locks_kept, log_kept}
 use Rattle.world_laws.specs.Messages.{MasterSays, Says, SaysFrom, View, ViewGoes, view}
-use Rattle.world_laws.specs.Runs.{AllTell, ListsStay, RunKeeps, Always, BringsSome, DurableIsHeld, ListsAreFronts, StepHolds, Tells, WritersDiffer}
+use Rattle.world_laws.specs.Runs.{AllTell, Always, BringsSome, DurableIsHeld, EndsKeepDurable, ListsAreFronts, ListsStay, NeverFalls, RunKeeps, StepHolds, Tells, WritersDiffer}
 use Rattle.world_laws.proofs.ApartLemmas.{nothing_holds}
 use Rattle.world_laws.proofs.LockMoves.{StillLaws, at_most, view_still}
 use Rattle.world_laws.proofs.MarkLemmas.{reached_marked}
@@ -139,6 +139,9 @@ always law began masters page_stores replicas ss brings = (law (begin masters pa
 pub lists_stay : RunKeeps → ListsStay
 lists_stay law w b steps store writer brings h = ((law w b steps brings h).goes.stores store).logs writer
 
+pub never_falls : RunKeeps → NeverFalls
+never_falls law w b steps writer brings h = (law w b steps brings h).goes.most writer
+
 pub so_always : (P : World → Beside → Type 0) → ((w : World) (b : Beside) → LogsHold w b → P w b) → Always LogsHold → Always P
 so_always P so h masters page_stores replicas ss brings =
     so (run (begin masters page_stores replicas) ss) (after_steps nothing (begin masters page_stores replicas) ss) (h masters page_stores replicas ss brings)
@@ -156,6 +159,9 @@ pub held : (w : World) (b : Beside) → LogsHold w b → DurableIsHeld w b
 held w b h store writer of =
     within (length (log_of (log_kept w store) writer).groups) (durable_by (fin.get b.lives writer))
     (λ one. (h.stores store).disk.acks writer (durable_by (fin.get b.lives writer)) (reached_marked (fin.get b.lives writer) store of one))
+
+pub ends_keep : (w : World) (b : Beside) → LogsHold w b → EndsKeepDurable w b
+ends_keep w b h writer end is = ((h.lives.ends writer end is).least, (h.stores end.store).disk.ended writer end is refl)
 
 pub differ : ((inputs : List Message) (v u : ℕ) (e f : WriterEntry) → lock_runs.WritersDiffer inputs v u e f) → (w : World) (b : Beside) → WritersDiffer w b
 differ law w b v u e f is_e is_f master boot = law w.lock_disk.records v u e f is_e is_f master boot

@@ -72,6 +72,17 @@ ListsStay =
     → LogsHold w b
     → LogGoes (log_of (log_kept w store) writer) (log_of (log_kept (run w steps) store) writer)
 
+-- What stands of a writer's groups never falls, at a close neither.
+abbrev pub NeverFalls : Type 0
+NeverFalls = (w : World) (b : Beside) (steps : List Step) (writer : ℕ) → BringAll w steps → LogsHold w b → hard w b writer ≤ hard (run w steps) (after_steps b w steps) writer
+
+-- Where a log ends it has all that its master knew to be durable, and the log store of the close is sealed there.
+abbrev pub EndsKeepDurable : World → Beside → Type 0
+EndsKeepDurable w b =
+    (writer : ℕ) (end : LogEnd)
+    → end_of w writer ≡ Some end
+    → (durable_by (fin.get b.lives writer) ≤ end.length) × IsSealedWith (log_of (log_kept w end.store) writer) end.length
+
 -- What a writer's master knew to be durable, each of the three log stores holds.
 abbrev pub DurableIsHeld : World → Beside → Type 0
 DurableIsHeld w b = (store writer : ℕ) → IsOneOfThree store → durable_by (fin.get b.lives writer) ≤ length (log_of (log_kept w store) writer).groups

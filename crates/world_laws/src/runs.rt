@@ -4,7 +4,7 @@
 //! commands, ticks, stops, starts and failing disks. What comes to a master is taken to be what the format of messages can
 //! spell (`BringAll`).
 ghost use Rattle.world_laws.specs.Invariant.{LogsHold};
-ghost use Rattle.world_laws.specs.Runs.{AllTell, Always, DurableIsHeld, ListsAreFronts, ListsStay, RunKeeps, StepHolds, WritersDiffer};
+ghost use Rattle.world_laws.specs.Runs.{AllTell, Always, DurableIsHeld, EndsKeepDurable, ListsAreFronts, ListsStay, NeverFalls, RunKeeps, StepHolds, WritersDiffer};
 
 use crate::{apart, begin, locks, masters, stores};
 use lock_model::laws;
@@ -58,6 +58,23 @@ pub fn lists_stay()
     ensures { ListsStay }
 {
     a_run_keeps_it();
+}
+
+/// How many of a writer's groups stand for ever never falls: the durable ones, and once the log has an end those up to it.
+/// Refused is a close at less than what the writer's master knew to be durable.
+pub fn what_stands_never_falls()
+    ensures { NeverFalls }
+{
+    a_run_keeps_it();
+}
+
+/// No close loses what was durable: a log that has an end has all that its master knew to be durable, and the log store
+/// that the close names is sealed there. Refused is a master that asks for a close before the log is sealed, and a log store
+/// that takes groups once it has named its length.
+pub fn a_close_keeps_what_is_durable()
+    ensures { Always EndsKeepDurable }
+{
+    it_always_holds();
 }
 
 /// A log store's list of a writer is always a front of that writer's log. Refused is a log store that keeps another group
