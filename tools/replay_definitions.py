@@ -19,7 +19,7 @@ FILES = """
 tm_lists/Words tm_lists/Keys tm_lists/Kept tm_data/Vectors tm_data/Sizes tm_data/Records tm_base/Sizes
 tm_base/GroupSizes key_fences/Fences page_model/Effects page_model/Versions page_model/Tree page_model/Splits
 page_model/Pool page_model/Tiling vs_clock/State log_writer/Acks log_writer/Log lease_desk/Desk lock_model/State
-lock_model/Step store_model/LogState store_model/LogStep store_model/LogStarts store_model/PageState
+lock_model/Step lock_model/Runs store_model/LogState store_model/LogStep store_model/LogStarts store_model/PageState
 store_model/PageStep store_model/PageWhole store_model/PageReads replica_model/Order replica_model/State
 replica_model/Step replica_model/Reads master_model/Tags master_model/State master_model/Fates master_model/Paths
 master_model/Logging master_model/Reads master_model/Writes master_model/Ends master_model/Leases master_model/Acks

@@ -1,7 +1,7 @@
 -- What the commands answer, leaf by leaf. A relation between what a writer has and an answer that holds of each leaf
 -- holds of every answer.
-use Rattle.std.proofs.Common.{◌≡◌, ◌+◌, ◌-◌, ◌^◌, ℕ, Bool, true, false, List, [], ◌∷◌, ◌++◌, Option, Some, None, Result, Ok, Err, refl, sym, subst, arith, ◌≤◌}
-use Rattle.std.specs.Prelude.{nat_lt, nat_le, length, take}
+use Rattle.std.proofs.Common.{◌≡◌, ◌+◌, ◌-◌, ◌^◌, inl, inr, ℕ, Bool, true, false, List, [], ◌∷◌, ◌++◌, Option, Some, None, Result, Ok, Err, refl, ap, sym, subst, ◌∙◌, arith, ◌≤◌, ◌<◌, cond, not}
+use Rattle.std.specs.Prelude.{nat_lt, nat_le, ◌&&◌, length, take}
 use Rattle.std.specs.FinMap as fin
 use Rattle.std.specs.FinSet as sets
 use Rattle.std.proofs.lemmas.Bool.Decides.{nat_tests}
@@ -21,10 +21,11 @@ use Rattle.page_model.specs.Tree.{path_of}
 use Rattle.master_model.specs.declared.session.Own.{Own}
 use Rattle.master_model.specs.declared.session.Progress.{Progress}
 use Rattle.master_model.specs.declared.session.Progress.TheVariants.{Active, Undoing, Ended}
-use Rattle.master_model.specs.Tags.{same_txn, takes, with_tag, others_on, foreign_on}
+use Rattle.log_writer.specs.Log.{lacking}
+use Rattle.master_model.specs.Tags.{Tags, is_full as tags_full, page_tag, same_txn, tags_on, takes, with_tag, others_on, foreign_on}
 use Rattle.master_model.specs.State.{Work, Answer, answers, durable, says, to_locks}
 use Rattle.master_model.specs.Fates as fates
-use Rattle.master_model.specs.Fates.{Standing, Free, Locks, Unknown, named, unless, or_later}
+use Rattle.master_model.specs.Fates.{is_ended, is_own, Standing, Free, Locks, Unknown, named, unless, or_later}
 use Rattle.master_model.specs.Paths as paths
 use Rattle.master_model.specs.Paths.{here, uses, last_of, wants}
 use Rattle.master_model.specs.Logging.{logs, with_room, if_room, has_numbers, has_stamps}
@@ -34,6 +35,7 @@ use Rattle.master_model.specs.Writes as writes
 use Rattle.master_model.specs.Writes.{Put, put_logged}
 use Rattle.master_model.specs.Ends as ends
 use Rattle.master_model.specs.Ends.{Awaited, awaited, free}
+use Rattle.master_model.specs.Refusals.{Because, IsLocking, IsUnknown}
 use Rattle.master_model.proofs.AwaitedLemmas.{none_awaited}
 use Rattle.master_model.proofs.Moves.{HasRoom, begun_in}
 
@@ -60,20 +62,83 @@ pub record Answered (session : ℕ) (P : Work → Answer → Type 0) : Type 0 wh
   -- a path that was used
   pub used : (w : Work) (path : List Page) (a : Answer) → P (uses w path) a → P w a
   -- nothing changes
-  pub said : (w : Work) (r : Reply) → IsPlain r → P w (says w r)
+  pub said : (w : Work) (r : Reply) → IsPlain r → Because session w w [] r → P w (says w r)
   pub own_value : (w : Work) (value : Option (List ℕ)) → P w (says w (reply.Value value))
   pub wanted : (w : Work) (page : Page) → P w (wants w page)
-  pub fresh : (w : Work) (wanting : ℕ) → P w (answers w (reply.AgainFresh wanting) (to_locks w (note.RequestFresh w.log.writer (w.fresh + 1)) ∷ []))
+  pub fresh : (w : Work) (wanting : ℕ) → w.spent ≡ false → P w (answers w (reply.AgainFresh wanting) (to_locks w (note.RequestFresh w.log.writer (w.fresh + 1)) ∷ []))
   pub asked : (w : Work) (t : Txn) → fates.standing w t ≡ Unknown → P w (answers w (reply.AgainFate t) (to_locks w (note.Ask t w.number) ∷ []))
   -- something changes
-  pub name : (w : Work) (t : Txn) (r : Reply) → IsPlain r → P w (says (named w t) r)
+  pub name : (w : Work) (t : Txn) (r : Reply) → IsPlain r → Because session w (named w t) [] r → P w (says (named w t) r)
   pub begin : (w : Work) (session : ℕ) → P w (says (begun_in w session) (reply.Begun (txn_numbered w (w.begun + 1))))
   pub tag : (w : Work) (page : ℕ) (key : List ℕ) (number : ℕ) (value : Option (List ℕ)) → P w (says (record w { tags = with_tag w.tags page key (txn_numbered w number) }) (reply.Value value))
   pub put : (w : Work) (p : Put) (leaf : Image) (path fresh : List Page) (groups : List (List Record)) → HasRoom w (length groups) → P w (put_logged p leaf path fresh (logs w groups))
   pub end : (w : Work) (session : ℕ) (own : Own) (committed : Bool) (groups : List (List Record)) → HasRoom w (length groups) → P w (ends.ends session own committed (logs w groups))
-  pub left : (w : Work) (session : ℕ) (own : Own) (rows : List RowKey) (groups : List (List Record)) → HasRoom w (length groups) → P w (ends.rows_left session own rows (logs w groups))
+  pub left : (w : Work) (session : ℕ) (own : Own) (rows : List RowKey) (groups : List (List Record)) → 1 ≤ length rows → HasRoom w (length groups) → P w (ends.rows_left session own rows (logs w groups))
   pub undone : (w : Work) (groups : List (List Record)) → HasRoom w (length groups) → P w (ends.undone_logged (logs w groups))
   pub over : (w : Work) (own : Own) (committed : Bool) (seq : ℕ) → EndsHere w session own committed seq → P w (says (free w session) (end_reply committed (txn_numbered w own.number)))
+
+-- ---- the causes
+
+is_table_there : (table : ℕ) → 1 ≤ table → table ≤ 1024 → reads.is_table table ≡ true
+is_table_there table from most = by (nat_le 1 table) (nat_le table 1024) (grind (arith, nat_tests)) (grind (arith, nat_tests))
+  where
+    by : (a b : Bool) → a ≡ true → b ≡ true → a && b ≡ true
+    by true true h k = refl
+    by true false h k = absurd (cc k)
+    by false b h k = absurd (cc h)
+
+above_most : (n most : ℕ) → nat_le n most ≡ false → most < n
+above_most n most is = grind (arith, nat_tests)
+
+not_below : (n most : ℕ) → nat_lt n most ≡ false → most ≤ n
+not_below n most is = grind (arith, nat_tests)
+
+full_of : (tags : Tags) (page : ℕ) (key : List ℕ) (t : Txn) → takes tags page key t ≡ false → 4096 ≤ length (tags_on tags page)
+full_of tags page key t is = by (sets.contains tags (page_tag page key t)) (tags_full tags page) refl is
+  where
+    by : (a b : Bool) → tags_full tags page ≡ b → cond a true (not b) ≡ false → 4096 ≤ length (tags_on tags page)
+    by true b full k = absurd (cc k)
+    by false true full k = grind (arith, nat_tests)
+    by false false full k = absurd (cc k)
+
+locks_of : (w : Work) (t : Txn) → fates.standing w t ≡ Locks → IsLocking w t
+locks_of w t is = by (is_own w t) (is_ended w t) (sets.contains w.told_open t) refl refl refl is
+  where
+    by : (own ended told : Bool) → is_own w t ≡ own → is_ended w t ≡ ended → sets.contains w.told_open t ≡ told → fates.standing_by own ended told ≡ Locks → IsLocking w t
+    by own true told a b d k = absurd (cc k)
+    by true false told a b d k = record { binds = b; is_open = inl a }
+    by false false true a b d k = record { binds = b; is_open = inr d }
+    by false false false a b d k = absurd (cc k)
+
+pub unknown_of : (w : Work) (t : Txn) → fates.standing w t ≡ Unknown → IsUnknown w t
+unknown_of w t is = by (is_own w t) (is_ended w t) (sets.contains w.told_open t) refl refl refl is
+  where
+    by : (own ended told : Bool) → is_own w t ≡ own → is_ended w t ≡ ended → sets.contains w.told_open t ≡ told → fates.standing_by own ended told ≡ Unknown → IsUnknown w t
+    by own true told a b d k = absurd (cc k)
+    by true false told a b d k = absurd (cc k)
+    by false false true a b d k = absurd (cc k)
+    by false false false a b d k = record { foreign = a; binds = b; untold = d }
+
+some_pair : (p q : ℕ × ℕ) → Some p ≡ Some q → (p.0 ≡ q.0) × (p.1 ≡ q.1)
+some_pair p q is = let same : p ≡ q = cc is in (ap (λ (x : ℕ × ℕ). x.0) same, ap (λ (x : ℕ × ℕ). x.1) same)
+
+pub awaited_lacks : (w : Work) (seq store n : ℕ) → awaited w seq ≡ Some (store, n) → lacking w.log.groups n ≡ Some store
+awaited_lacks w seq store n is = by (nat_le seq (durable w)) is
+  where
+    named : (m s : ℕ) → lacking w.log.groups m ≡ Some s → (s ≡ store) × (m ≡ n) → lacking w.log.groups n ≡ Some store
+    named m s lacks same = ap (λ (i : ℕ). lacking w.log.groups i) (sym same.1) ∙ lacks ∙ ap Some same.0
+
+    next : (m : ℕ) (o : Option ℕ) → lacking w.log.groups m ≡ o → ends.awaited_next m o ≡ Some (store, n) → lacking w.log.groups n ≡ Some store
+    next m None lacks k = absurd (cc k)
+    next m (Some s) lacks k = named m s lacks (some_pair (s, m) (store, n) k)
+
+    own : (o : Option ℕ) → lacking w.log.groups seq ≡ o → ends.awaited_own w seq o ≡ Some (store, n) → lacking w.log.groups n ≡ Some store
+    own None lacks k = next (durable w + 1) (lacking w.log.groups (durable w + 1)) refl k
+    own (Some s) lacks k = named seq s lacks (some_pair (s, seq) (store, n) k)
+
+    by : (b : Bool) → ends.awaited_if w seq b ≡ Some (store, n) → lacking w.log.groups n ≡ Some store
+    by true k = absurd (cc k)
+    by false k = own (lacking w.log.groups seq) refl k
 
 abbrev IfSays : (Work → Answer → Type 0) → Work → Option Answer → Type 0
 IfSays P w None = Unit {0}
@@ -84,29 +149,29 @@ module _ {session : ℕ} {P : Work → Answer → Type 0} (c : Answered session 
   room_says w count a h = by (has_numbers w count) (has_stamps w count) refl refl
     where
       by : (b d : Bool) → has_numbers w count ≡ b → has_stamps w count ≡ d → P w (if_room w b d a)
-      by false d is_b is_d = c.said w reply.FullGroups tt
-      by true false is_b is_d = c.said w reply.StampsSpent tt
+      by false d is_b is_d = c.said w reply.FullGroups tt tt
+      by true false is_b is_d = c.said w reply.StampsSpent tt tt
       by true true is_b is_d = h (record { numbers = grind (arith, nat_tests); stamps = grind (arith, nat_tests) })
 
   unless_says : (w : Work) (o : Option Answer) (a : Answer) → IfSays P w o → P w a → P w (unless o a)
   unless_says w None a stops goes = goes
   unless_says w (Some b) a stops goes = stops
 
-  blocked_says : (w : Work) (t : Txn) (locked : Reply) → IsPlain locked → IfSays P w (fates.blocked w t locked)
-  blocked_says w t locked plain = by (fates.standing w t) refl
+  blocked_says : (w : Work) (t : Txn) (locked : Reply) → IsPlain locked → (IsLocking w t → Because session w (named w t) [] locked) → IfSays P w (fates.blocked w t locked)
+  blocked_says w t locked plain why = by (fates.standing w t) refl
     where
       by : (s : Standing) → fates.standing w t ≡ s → IfSays P w (fates.blocked_by w t locked s)
       by Free is = tt
-      by Locks is = c.name w t locked plain
+      by Locks is = c.name w t locked plain (why (locks_of w t is))
       by Unknown is = c.asked w t is
 
   later_says : (w : Work) (o later : Option Answer) → IfSays P w o → IfSays P w later → IfSays P w (or_later o later)
   later_says w None later a b = b
   later_says w (Some x) later a b = a
 
-  tags_say : (w : Work) (words : Tag → Reply) (ts : List Tag) → ((t : Tag) → IsPlain (words t)) → IfSays P w (fates.blocked_by_tags w words ts)
-  tags_say w words [] plain = tt
-  tags_say w words (t ∷ ts) plain = later_says w (fates.blocked w t.txn (words t)) (fates.blocked_by_tags w words ts) (blocked_says w t.txn (words t) (plain t)) (tags_say w words ts plain)
+  tags_say : (w : Work) (words : Tag → Reply) (ts : List Tag) → ((t : Tag) → IsPlain (words t)) → ((t : Tag) → IsLocking w t.txn → Because session w (named w t.txn) [] (words t)) → IfSays P w (fates.blocked_by_tags w words ts)
+  tags_say w words [] plain why = tt
+  tags_say w words (t ∷ ts) plain why = later_says w (fates.blocked w t.txn (words t)) (fates.blocked_by_tags w words ts) (blocked_says w t.txn (words t) (plain t) (why t)) (tags_say w words ts plain why)
 
   path_says : (w : Work) (table : ℕ) (key : List ℕ) (goes_on : Work → List Page → Image → Answer)
       → ((path : List Page) (leaf : Image) → P (uses w path) (goes_on (uses w path) path leaf)) → P w (paths.on_path w table key goes_on)
@@ -120,55 +185,60 @@ module _ {session : ℕ} {P : Work → Answer → Type 0} (c : Answered session 
       by (Err page) = c.wanted w page
       by (Ok path) = at path (last_of None (images_on (here w) path))
 
-  session_says : (w : Work) (in_session : ℕ) (goes_on : Own → Answer) → ((own : Own) → fin.get w.sessions in_session ≡ Some own → P w (goes_on own)) → P w (reads.in_session w in_session goes_on)
-  session_says w in_session goes_on h = by (fin.get w.sessions in_session) refl
+  session_says : (w : Work) (goes_on : Own → Answer) → ((own : Own) → fin.get w.sessions session ≡ Some own → P w (goes_on own)) → P w (reads.in_session w session goes_on)
+  session_says w goes_on h = by (fin.get w.sessions session) refl
     where
-      by : (o : Option Own) → fin.get w.sessions in_session ≡ o → P w (reads.on_session w o goes_on)
-      by None is = c.said w reply.NoTransaction tt
+      by : (o : Option Own) → fin.get w.sessions session ≡ o → P w (reads.on_session w o goes_on)
+      by None is = c.said w reply.NoTransaction tt (is, refl)
       by (Some own) is = h own is
 
-  active_says : (w : Work) (t : Txn) (p : Progress) (a : Answer) → P w a → P w (reads.if_active w t p a)
-  active_says w t Active a h = h
-  active_says w t other a h = c.said w (reply.Ending t) tt
+  ending : (w : Work) (own : Own) (p : Progress) → fin.get w.sessions session ≡ Some own → own.progress ≡ p → (p ≡ Active → ⊥) → P w (says w (reply.Ending (txn_numbered w own.number)))
+  ending w own p is at not =
+      c.said w (reply.Ending (txn_numbered w own.number)) tt (record { of_session = record { own = own; in_session = is; named = refl }; begun = λ active. not (sym at ∙ active) }, refl)
+
+  active_says : (w : Work) (own : Own) (p : Progress) (a : Answer) → fin.get w.sessions session ≡ Some own → own.progress ≡ p → P w a → P w (reads.if_active w (txn_numbered w own.number) p a)
+  active_says w own Active a is at h = h
+  active_says w own (Undoing left) a is at h = ending w own (Undoing left) is at (λ e. cc e)
+  active_says w own (Ended committed seq) a is at h = ending w own (Ended committed seq) is at (λ e. cc e)
 
   named_says : (w : Work) (table : ℕ) (key : List ℕ) (a : Answer) → P w a → P w (reads.if_named w table key a)
-  named_says w table key a h = by (reads.is_table table) (nat_le (length key) 64)
+  named_says w table key a h = by (reads.is_table table) (nat_le (length key) 64) refl refl
     where
-      by : (b d : Bool) → P w (reads.if_table w table b (reads.if_key w key d a))
-      by false d = c.said w (reply.NoTable table) tt
-      by true false = c.said w (reply.TooLongKey (length key)) tt
-      by true true = h
+      by : (b d : Bool) → reads.is_table table ≡ b → nat_le (length key) 64 ≡ d → P w (reads.if_table w table b (reads.if_key w key d a))
+      by false d no_table is_d = c.said w (reply.NoTable table) tt (λ from most. absurd (cc (no_table, is_table_there table from most)), refl)
+      by true false is_b long = c.said w (reply.TooLongKey (length key)) tt (above_most (length key) 64 long, refl)
+      by true true is_b is_d = h
 
-  pub begin_says : (w : Work) (session : ℕ) → P w (reads.begin w session)
-  begin_says w session = by (fin.get w.sessions session)
+  pub begin_says : (w : Work) → P w (reads.begin w session)
+  begin_says w = by (fin.get w.sessions session) refl
     where
-      new : (b : Bool) → P w (reads.begins w session b)
-      new false = c.said w reply.FullTransactions tt
-      new true = c.begin w session
+      new : (b : Bool) → nat_lt (w.begun + 1) (2 ^ 32 - 1) ≡ b → P w (reads.begins w session b)
+      new false full = c.said w reply.FullTransactions tt (not_below (w.begun + 1) (2 ^ 32 - 1) full, refl)
+      new true is = c.begin w session
 
-      by : (o : Option Own) → P w (reads.begins_beside w session o)
-      by None = new (nat_lt (w.begun + 1) (2 ^ 32 - 1))
-      by (Some own) = c.said w (reply.AlreadyOpen (txn_numbered w own.number)) tt
+      by : (o : Option Own) → fin.get w.sessions session ≡ o → P w (reads.begins_beside w session o)
+      by None is = new (nat_lt (w.begun + 1) (2 ^ 32 - 1)) refl
+      by (Some own) is = c.said w (reply.AlreadyOpen (txn_numbered w own.number)) tt (record { own = own; in_session = is; named = refl }, refl)
 
-  reads_say : (w : Work) (page : ℕ) (key : List ℕ) (number : ℕ) (value : Option (List ℕ)) (b : Bool) → P w (reads.reads_if w page key (txn_numbered w number) value b)
-  reads_say w page key number value false = c.said w reply.FullTags tt
-  reads_say w page key number value true = c.tag w page key number value
+  reads_say : (w : Work) (page : ℕ) (key : List ℕ) (number : ℕ) (value : Option (List ℕ)) (b : Bool) → takes w.tags page key (txn_numbered w number) ≡ b → P w (reads.reads_if w page key (txn_numbered w number) value b)
+  reads_say w page key number value false full = c.said w reply.FullTags tt ((page, full_of w.tags page key (txn_numbered w number) full), refl)
+  reads_say w page key number value true is = c.tag w page key number value
 
   get_of_says : (w : Work) (leaf : Image) (key : List ℕ) (number : ℕ) (row : Row) (b : Bool) → P w (reads.get_of w leaf key (txn_numbered w number) row b)
   get_of_says w leaf key number row true = c.own_value w row.now
   get_of_says w leaf key number row false =
-      unless_says w (fates.blocked w row.txn (reply.LockedRow row.txn key)) (reads.reads w leaf.page.0 key (txn_numbered w number) row.now) (blocked_says w row.txn (reply.LockedRow row.txn key) tt)
-      (reads_say w leaf.page.0 key number row.now (takes w.tags leaf.page.0 key (txn_numbered w number)))
+      unless_says w (fates.blocked w row.txn (reply.LockedRow row.txn key)) (reads.reads w leaf.page.0 key (txn_numbered w number) row.now) (blocked_says w row.txn (reply.LockedRow row.txn key) tt (λ locking. (locking, refl)))
+      (reads_say w leaf.page.0 key number row.now (takes w.tags leaf.page.0 key (txn_numbered w number)) refl)
 
-  pub get_says : (w : Work) (session table : ℕ) (key : List ℕ) → P w (reads.get w session table key)
-  get_says w session table key =
-      session_says w session _ (λ own is.
-      active_says w (txn_numbered w own.number) own.progress _
+  pub get_says : (w : Work) (table : ℕ) (key : List ℕ) → P w (reads.get w session table key)
+  get_says w table key =
+      session_says w _ (λ own is.
+      active_says w own own.progress _ is refl
       (named_says w table key _
       (path_says w table key (reads.get_at key (txn_numbered w own.number)) (λ path leaf. at (uses w path) own.number leaf (paths.row_at leaf key)))))
     where
       at : (u : Work) (number : ℕ) (leaf : Image) (o : Option Row) → P u (reads.get_row u leaf key (txn_numbered u number) o)
-      at u number leaf None = reads_say u leaf.page.0 key number None (takes u.tags leaf.page.0 key (txn_numbered u number))
+      at u number leaf None = reads_say u leaf.page.0 key number None (takes u.tags leaf.page.0 key (txn_numbered u number)) refl
       at u number leaf (Some row) = get_of_says u leaf key number row (same_txn row.txn (txn_numbered u number))
 
   put_says_logged : (w : Work) (p : Put) (path : List Page) (leaf : Image) (fresh : List Page) (groups : List (List Record)) → P w (writes.put_planned p w path leaf fresh groups)
@@ -179,12 +249,12 @@ module _ {session : ℕ} {P : Work → Answer → Type 0} (c : Answered session 
       by None = room_says w (length groups) (put_logged p leaf path fresh (logs w groups)) (c.put w p leaf path fresh groups)
 
   put_says_planned : (w : Work) (p : Put) (path : List Page) (leaf : Image) (r : Result (List (List Record)) Refusal) → P w (writes.put_by p w path leaf r)
-  put_says_planned w p path leaf (Err TooHigh) = c.said w reply.FullHeight tt
-  put_says_planned w p path leaf (Err (Wanting wanting)) = by w.spent
+  put_says_planned w p path leaf (Err TooHigh) = c.said w reply.FullHeight tt tt
+  put_says_planned w p path leaf (Err (Wanting wanting)) = by w.spent refl
     where
-      by : (b : Bool) → P w (writes.wants_fresh w wanting b)
-      by true = c.said w reply.PagesSpent tt
-      by false = c.fresh w wanting
+      by : (b : Bool) → w.spent ≡ b → P w (writes.wants_fresh w wanting b)
+      by true spent = c.said w reply.PagesSpent tt (spent, refl)
+      by false spent = c.fresh w wanting spent
   put_says_planned w p path leaf (Ok groups) = put_says_logged w p path leaf (take (writes.fresh_needed w path p.row) w.stock) groups
 
   put_says_free : (w : Work) (p : Put) (path : List Page) (leaf : Image) → P w (writes.put_free p w path leaf)
@@ -194,19 +264,19 @@ module _ {session : ℕ} {P : Work → Answer → Type 0} (c : Answered session 
     where
       by : (b : Bool) → IfSays P w (writes.blocked_if_full w leaf.page.0 b)
       by false = tt
-      by true = tags_say w (λ t. reply.LockedSplit t.txn t.key) (foreign_on w.tags leaf.page.0 w.log.writer.0) (λ t. tt)
+      by true = tags_say w (λ t. reply.LockedSplit t.txn t.key) (foreign_on w.tags leaf.page.0 w.log.writer.0) (λ t. tt) (λ t locking. (locking, refl))
 
   put_says_row : (w : Work) (session : ℕ) (own : Own) (table : ℕ) (key : List ℕ) (value : Option (List ℕ)) (path : List Page) (leaf : Image) (old : Option Row)
       → P w (writes.put_row session own table key value w path leaf old)
   put_says_row w session own table key value path leaf old =
       let t = txn_numbered w own.number in
       unless_says w (writes.blocked_by_row w key t old) _ (by old)
-      (unless_says w (writes.blocked_by_readers w leaf.page.0 key t) _ (tags_say w (λ t. reply.LockedRow t.txn key) (others_on w.tags leaf.page.0 key t) (λ t. tt))
+      (unless_says w (writes.blocked_by_readers w leaf.page.0 key t) _ (tags_say w (λ t. reply.LockedRow t.txn key) (others_on w.tags leaf.page.0 key t) (λ t. tt) (λ t locking. (locking, refl)))
       (put_says_free w (record { session = session; own = own; table = table; row = writes.row_put key t value old }) path leaf))
     where
       other : (row : Row) (b : Bool) → IfSays P w (writes.blocked_by_other w key row b)
       other row true = tt
-      other row false = blocked_says w row.txn (reply.LockedRow row.txn key) tt
+      other row false = blocked_says w row.txn (reply.LockedRow row.txn key) tt (λ locking. (locking, refl))
 
       by : (o : Option Row) → IfSays P w (writes.blocked_by_row w key (txn_numbered w own.number) o)
       by None = tt
@@ -214,16 +284,16 @@ module _ {session : ℕ} {P : Work → Answer → Type 0} (c : Answered session 
 
   value_says : (w : Work) (value : Option (List ℕ)) (a : Answer) → P w a → P w (writes.if_value w value a)
   value_says w None a h = h
-  value_says w (Some value) a h = by (nat_le (length value) 512)
+  value_says w (Some value) a h = by (nat_le (length value) 512) refl
     where
-      by : (b : Bool) → P w (writes.if_short w value b a)
-      by false = c.said w (reply.TooLongValue (length value)) tt
-      by true = h
+      by : (b : Bool) → nat_le (length value) 512 ≡ b → P w (writes.if_short w value b a)
+      by false long = c.said w (reply.TooLongValue (length value)) tt (above_most (length value) 512 long, refl)
+      by true is = h
 
-  pub put_says : (w : Work) (session table : ℕ) (key : List ℕ) (value : Option (List ℕ)) → P w (writes.put w session table key value)
-  put_says w session table key value =
-      session_says w session _ (λ own is.
-      active_says w (txn_numbered w own.number) own.progress _
+  pub put_says : (w : Work) (table : ℕ) (key : List ℕ) (value : Option (List ℕ)) → P w (writes.put w session table key value)
+  put_says w table key value =
+      session_says w _ (λ own is.
+      active_says w own own.progress _ is refl
       (named_says w table key _ (value_says w value _
       (path_says w table key (writes.put_at session own table key value) (λ path leaf. put_says_row (uses w path) session own table key value path leaf (paths.row_at leaf key))))))
 
@@ -237,20 +307,20 @@ module _ {session : ℕ} {P : Work → Answer → Type 0} (c : Answered session 
     where
       by : (o : Awaited) → awaited w seq ≡ o → P w (ends.answers_end w session (end_reply committed (txn_numbered w own.number)) o)
       by None none = c.over w own committed seq (record { in_session = is; progress = ended; is_durable = none_awaited w seq none })
-      by (Some (store, n)) none = c.said w (reply.AgainStore store n) tt
+      by (Some (store, n)) none = c.said w (reply.AgainStore store n) tt (awaited_lacks w seq store n none)
 
   pub commit_says : (w : Work) → P w (ends.commit w session)
-  commit_says w = session_says w session _ (λ own is. by own is own.progress refl)
+  commit_says w = session_says w _ (λ own is. by own is own.progress refl)
     where
       by : (own : Own) → fin.get w.sessions session ≡ Some own → (p : Progress) → own.progress ≡ p → P w (ends.commits w session own (txn_numbered w own.number) p)
       by own is Active at = end_says w session own true (ends.end_of (txn_numbered w own.number) true ∷ []) 1 refl
       by own is (Ended true seq) at = answers_say w own true seq is at
-      by own is (Ended false seq) at = c.said w (reply.Ending (txn_numbered w own.number)) tt
-      by own is (Undoing rows) at = c.said w (reply.Ending (txn_numbered w own.number)) tt
+      by own is (Ended false seq) at = ending w own (Ended false seq) is at (λ e. cc e)
+      by own is (Undoing rows) at = ending w own (Undoing rows) is at (λ e. cc e)
 
   abort_says_with : (w : Work) (session : ℕ) (own : Own) (t : Txn) (undone : List (List Record)) (rows : List RowKey) → P w (ends.aborts_with w session own t undone rows)
   abort_says_with w session own t undone [] = end_says w session own false (undone ++ ends.end_of t false ∷ []) (length undone + 1) (length-append undone (ends.end_of t false ∷ []))
-  abort_says_with w session own t undone (k ∷ ks) = room_says w (length undone) _ (c.left w session own (k ∷ ks) undone)
+  abort_says_with w session own t undone (k ∷ ks) = room_says w (length undone) _ (c.left w session own (k ∷ ks) undone (omega arith))
 
   abort_says_rows : (w : Work) (session : ℕ) (own : Own) (t : Txn) (rows : List RowKey) → P w (ends.aborts_rows w session own t rows)
   abort_says_rows w session own t [] = abort_says_with w session own t [] []
@@ -259,13 +329,13 @@ module _ {session : ℕ} {P : Work → Answer → Type 0} (c : Answered session 
       abort_says_with (uses w path) session own t (ends.undo leaf k.table k.key t) ks)
 
   pub abort_says : (w : Work) → P w (ends.abort w session)
-  abort_says w = session_says w session _ (λ own is. by own is own.progress refl)
+  abort_says w = session_says w _ (λ own is. by own is own.progress refl)
     where
       by : (own : Own) → fin.get w.sessions session ≡ Some own → (p : Progress) → own.progress ≡ p → P w (ends.aborts w session own (txn_numbered w own.number) p)
       by own is Active at = abort_says_rows w session own (txn_numbered w own.number) (sets.items own.written)
       by own is (Undoing rows) at = abort_says_rows w session own (txn_numbered w own.number) rows
       by own is (Ended false seq) at = answers_say w own false seq is at
-      by own is (Ended true seq) at = c.said w (reply.Ending (txn_numbered w own.number)) tt
+      by own is (Ended true seq) at = ending w own (Ended true seq) is at (λ e. cc e)
 
   pub undo_says : (w : Work) (table : ℕ) (key : List ℕ) (t : Txn) → P w (ends.undo_next w table key t)
   undo_says w table key t = path_says w table key (λ used path leaf. ends.undoes (ends.undo leaf table key t) used) (λ path leaf.

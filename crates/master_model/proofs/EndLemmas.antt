@@ -40,17 +40,17 @@ done_says session w (Some (store, seq)) = tt
 end_answers : (session : ℕ) → Answered session (λ w a. Says session w a.reply)
 end_answers session = record {
   used = λ w path a h. h;
-  said = λ w r plain. plain_says session w r plain;
+  said = λ w r plain why. plain_says session w r plain;
   own_value = λ w value. tt;
   wanted = λ w page. tt;
-  fresh = λ w wanting. tt;
+  fresh = λ w wanting spent. tt;
   asked = λ w t is. tt;
-  name = λ w t r plain. plain_says session w r plain;
+  name = λ w t r plain why. plain_says session w r plain;
   begin = λ w in_session. tt;
   tag = λ w page key number value. tt;
   put = λ w p leaf path fresh groups room. tt;
   end = λ w in_session own committed groups room. done_says session w _;
-  left = λ w in_session own rows groups room. tt;
+  left = λ w in_session own rows groups some room. tt;
   undone = λ w groups room. tt;
   over = λ w own committed seq h. end_says session w own committed seq h;
 }
@@ -108,10 +108,10 @@ recover_says session l writer = by (nat_eq writer.0 (writer_of l.work)) (recover
     by false (Some e) = known (sets.contains l.recovered writer || recovery.is_recovered e.state)
 
 command_says : (l : Life) (session : ℕ) (asked : Command) → Says session l.work (does.commanded l session asked).reply
-command_says l session command.Begin = begin_says (end_answers session) l.work session
-command_says l session (command.Get table key) = get_says (end_answers session) l.work session table key
-command_says l session (command.Put table key value) = put_says (end_answers session) l.work session table key (Some value)
-command_says l session (command.Del table key) = put_says (end_answers session) l.work session table key None
+command_says l session command.Begin = begin_says (end_answers session) l.work
+command_says l session (command.Get table key) = get_says (end_answers session) l.work table key
+command_says l session (command.Put table key value) = put_says (end_answers session) l.work table key (Some value)
+command_says l session (command.Del table key) = put_says (end_answers session) l.work table key None
 command_says l session command.Commit = commit_says (end_answers session) l.work
 command_says l session command.Abort = abort_says (end_answers session) l.work
 command_says l session (command.Recover writer) = recover_says session l writer

@@ -33,3 +33,4 @@ mod KeptLemmas
 mod SaidLemmas
 mod DoneLemmas
 mod RestLemmas
+mod BecauseLemmas

@@ -391,17 +391,17 @@ asked_others w page other = tt
 other_answers : (session : ℕ) → Answered session (λ w a. AreOthers a.messages)
 other_answers session = record {
   used = λ w path a h. h;
-  said = λ w r plain. tt;
+  said = λ w r plain why. tt;
   wanted = λ w page. asked_others w page (lease_of w.leases page.0).state;
-  fresh = λ w wanting. (tt, tt);
+  fresh = λ w wanting spent. (tt, tt);
   asked = λ w t is. (tt, tt);
   own_value = λ w value. tt;
-  name = λ w t r plain. tt;
+  name = λ w t r plain why. tt;
   begin = λ w session. tt;
   tag = λ w page key number value. tt;
   put = λ w p leaf path fresh groups room. tt;
   end = λ w session own committed groups room. tt;
-  left = λ w session own rows groups room. tt;
+  left = λ w session own rows groups some room. tt;
   undone = λ w groups room. tt;
   over = λ w own committed seq is. tt;
 }
@@ -502,10 +502,10 @@ of_work : (asked : Command) (l : Life) (a : Answer) → AreOthers a.messages →
 of_work asked l a others = record { roster = refl; stages = asked_same asked l (record l { work = a.work }) refl; said = others_said _ a.messages others }
 
 asked_on : (l : Life) (session : ℕ) (asked : Command) → AskedMoves asked l (does.commanded l session asked)
-asked_on l session command.Begin = of_work _ l _ (begin_says (other_answers session) l.work session)
-asked_on l session (command.Get table key) = of_work _ l _ (get_says (other_answers session) l.work session table key)
-asked_on l session (command.Put table key value) = of_work _ l _ (put_says (other_answers session) l.work session table key (Some value))
-asked_on l session (command.Del table key) = of_work _ l _ (put_says (other_answers session) l.work session table key None)
+asked_on l session command.Begin = of_work _ l _ (begin_says (other_answers session) l.work)
+asked_on l session (command.Get table key) = of_work _ l _ (get_says (other_answers session) l.work table key)
+asked_on l session (command.Put table key value) = of_work _ l _ (put_says (other_answers session) l.work table key (Some value))
+asked_on l session (command.Del table key) = of_work _ l _ (put_says (other_answers session) l.work table key None)
 asked_on l session command.Commit = of_work _ l _ (commit_says (other_answers session) l.work)
 asked_on l session command.Abort = of_work _ l _ (abort_says (other_answers session) l.work)
 asked_on l session (command.Recover writer) = recover_moves l writer

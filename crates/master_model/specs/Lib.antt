@@ -16,3 +16,4 @@ pub mod Told
 pub mod Replies
 pub mod Causes
 pub mod Stages
+pub mod Refusals

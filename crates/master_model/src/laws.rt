@@ -25,6 +25,8 @@ ghost use Rattle.master_model.specs.Goes.{Goes};
 ghost use Rattle.master_model.specs.Told.{IsNamed, MessageFact, Sent};
 ghost use Rattle.master_model.specs.Causes.{AcknowledgesOwn, EpochCame, Joins, LeftSent, WriterStays, epoch_in, is_noted, left_in, roster_in};
 ghost use Rattle.master_model.specs.declared.left.Left.{Left};
+ghost use Rattle.master_model.specs.Refusals.{BecauseIn, IsInSession, RecoverIsSaid};
+ghost use Rattle.tm_data.specs.declared.transaction.Writer.{Writer};
 ghost use Rattle.master_model.specs.Stages.{RecoveryGoes, RecoveryIsAsked, StagesAreSaid};
 
 /// What holds in every state holds at the start, where nothing is known yet. It speaks of the start alone: refused is
@@ -287,4 +289,25 @@ pub fn recalled_pages_go_once_they_may()
     ensures start { (number boot stores : ℕ) → LifeRests (start number boot stores).0.life }
     ensures message { (s : State) (m : Message) → Brings m → LifeRests s.life → LifeRests (step s m).0.life }
     ensures command { (s : State) (session : ℕ) (asked : Command) → LifeRests s.life → LifeRests (on_command s session asked).0.life }
+{}
+
+/// What a session's command is answered has its cause, and asks for what it names: a master that hasn't joined or is
+/// fenced says that, and nothing else; a lock is of a transaction that isn't known to have ended, and is an own one or was
+/// told to be open; a fate is asked for, by one Ask, of another writer's transaction of which neither is known; a page
+/// that is awaited is asked for by one Request where it has no lease here, by one ReadPage where it is held, and not
+/// otherwise; a fresh page by one RequestFresh; a log store that is awaited hasn't acknowledged that group; and the
+/// other refusals hold of the session, table, key, value, leaf or transaction number that they name. It doesn't speak of
+/// the causes of Full height, Full groups and StampsSpent. Refused is a command that locks by a transaction
+/// which has ended, one that asks for a fate that was told, and one that awaits a log store which has the group.
+pub fn answers_have_their_causes()
+    ensures { (s : State) (session : ℕ) (asked : Command) → IsInSession asked → BecauseIn session s.life (on_command s session asked).0.life (on_command s session asked).2 (on_command s session asked).1 }
+{}
+
+/// So has the answer to a recovery: no writer is the own one, or one that the last roster doesn't name; a writer is
+/// recovered where the lock manager's word or the last roster says so, or its recovery is over; another recovery is under
+/// way; what is waited for is that of its stage after the step, where so many rows, at least one, are left to undo, or a
+/// log store lacks a group. Refused is a recovery that is taken for done because it is told, and one that waits for the
+/// close in each stage.
+pub fn a_recovery_answers_its_stage()
+    ensures { (s : State) (session : ℕ) (writer : Writer) → RecoverIsSaid s.life (on_command s session (command.Recover writer)).0.life writer (on_command s session (command.Recover writer)).1 }
 {}

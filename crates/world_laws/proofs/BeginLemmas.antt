@@ -79,11 +79,11 @@ pub record BeginLaws : Type 0 where
   pub of_apart : ApartLaws
 
 begins_hold : BeginLaws → (w : World) (b : Beside) (node : Node) → LogsHold w b → LogsHold (begins w node).world b
-begins_hold law w b LockManager h = lock_opened law.of_locks w b (opened message_size w.lock_disk) (opened_same w.lock_disk) h
-begins_hold law w b (LogStore number) h = opens law.of_stores w b number (opened message_size (log_disk_of w number)) (opened_same (log_disk_of w number)) h
-begins_hold law w b (Master number) h = node_begins law.of_apart w b (Master number) tt h
-begins_hold law w b (PageStore number) h = node_begins law.of_apart w b (PageStore number) tt h
-begins_hold law w b (Replica number) h = node_begins law.of_apart w b (Replica number) tt h
+begins_hold law w b LockManager h = (lock_opened law.of_locks w b (opened message_size w.lock_disk) (opened_same w.lock_disk) h).holds
+begins_hold law w b (LogStore number) h = (opens law.of_stores w b number (opened message_size (log_disk_of w number)) (opened_same (log_disk_of w number)) h).holds
+begins_hold law w b (Master number) h = (node_begins law.of_apart w b (Master number) tt h).holds
+begins_hold law w b (PageStore number) h = (node_begins law.of_apart w b (PageStore number) tt h).holds
+begins_hold law w b (Replica number) h = (node_begins law.of_apart w b (Replica number) tt h).holds
 
 started_hold : BeginLaws → (w : World) (b : Beside) (ns : List Node) → LogsHold w b → LogsHold (with_started w ns) b
 started_hold law w b [] h = h

@@ -10,7 +10,7 @@ use Rattle.world_model.specs.Nodes.{lock_keeps, lock_takes, message_size}
 use Rattle.world_laws.specs.Kept.{locks_kept}
 use Rattle.world_laws.specs.Lives.{LockDeliveryRuns, LockRuns, RunsAs}
 
-after_one : (s : State) (ms : List Message) (m : Message) → after s (ms ++ m ∷ []) ≡ (step (after s ms) m).0
+pub after_one : (s : State) (ms : List Message) (m : Message) → after s (ms ++ m ∷ []) ≡ (step (after s ms) m).0
 after_one s [] m = refl
 after_one s (x ∷ ms) m = after_one (step s x).0 ms m
 

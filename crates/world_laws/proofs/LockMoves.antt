@@ -9,6 +9,7 @@ use Rattle.tm_data.specs.declared.transaction.Writer.{Writer}
 use Rattle.tm_data.specs.declared.log.Group.{Group}
 use Rattle.tm_base.specs.declared.message.Message.{Message}
 use Rattle.lock_model.specs.declared.writer.WriterEntry.{WriterEntry}
+use Rattle.tm_base.specs.declared.message.RosterEntry.{RosterEntry}
 use Rattle.lock_model.specs.State as locks
 use Rattle.lock_model.specs.State.{at, page_in}
 use Rattle.lease_desk.specs.Desk.{lease_of}
@@ -26,9 +27,9 @@ use Rattle.store_model.specs.LogGoes.{AreLonger, Goes, IsOf}
 use Rattle.world_model.specs.Disk.{Disk}
 use Rattle.world_model.specs.World.{World, Past, or_zero}
 use Rattle.world_laws.specs.Beside.{Beside, durable_by, log_by, up_to}
-use Rattle.world_laws.specs.Invariant.{LogsHold}
+use Rattle.world_laws.specs.Invariant.{LogsHold, StepKeeps}
 use Rattle.world_laws.specs.Kept.{end_of, hard, locks_kept, log_kept}
-use Rattle.world_laws.specs.Lives.{BootFacts, EndFact, JoinedAs, JoinedFact, LifeFact, LivesHold, RecoveryFact, RunsAs, StageFact}
+use Rattle.world_laws.specs.Lives.{BootFacts, EndFact, JoinedAs, JoinedFact, LifeFact, LivesHold, RecoveryFact, RosterKept, RunsAs, StageFact}
 use Rattle.world_laws.specs.LogStores.{RunsBy, RunsFrom, StoreHolds, StoresHold}
 use Rattle.world_laws.specs.Messages.{Says, SaysFrom, View, ViewGoes, view}
 use Rattle.world_laws.proofs.MessageLemmas.{TellLaws, sayings_stay}
@@ -39,6 +40,26 @@ pub record MoveLaws : Type 0 where
   pub tells : TellLaws
   pub store_still : (s : LogStoreState) → Goes s s
   pub longer : (logs new_logs : ℕ → List Group) (most new_most : ℕ → ℕ) (s : LogStoreState) → AreLonger logs new_logs most new_most → IsOf logs most s → IsOf new_logs new_most s
+
+pub at_itself : (n : ℕ) → n ≤ n
+at_itself n = omega arith
+
+pub at_most : (a b c : ℕ) → a ≤ b → b ≤ c → a ≤ c
+at_most a b c h k = omega (arith, h, k)
+
+pub record StillLaws : Type 0 where
+  pub of_moves : MoveLaws
+  pub lock_still : (s : locks.State) → lock_goes.Goes s s
+
+-- A world with the same view has gone on.
+pub view_still : StillLaws → (w : World) (b : Beside) → ViewGoes (view w b) (view w b)
+view_still law w b = record {
+  stores = λ number. law.of_moves.store_still (log_kept w number);
+  of_locks = law.lock_still (locks_kept w);
+  logs = λ writer. ([], sym (append-nil (log_by b writer)));
+  most = λ writer. at_itself (hard w b writer);
+  boots = λ number. at_itself (or_zero (fin.get w.boots number));
+}
 
 -- ---- how the disk's state goes on
 
@@ -73,12 +94,6 @@ kept d = after locks.start d.records
 end_stays : (w : World) (b : Beside) (x : locks.State) (writer : ℕ) → EndMove w b x writer → (e : LogEnd) → end_of w writer ≡ Some e → ended_at (at x.writers writer) ≡ Some e
 end_stays w b x writer (inl same) e is = same ∙ is
 end_stays w b x writer (inr g) e is = absurd (cc (sym g.was ∙ is))
-
-pub at_itself : (n : ℕ) → n ≤ n
-at_itself n = omega arith
-
-pub at_most : (a b c : ℕ) → a ≤ b → b ≤ c → a ≤ c
-at_most a b c h k = omega (arith, h, k)
 
 most_goes : (w : World) (b : Beside) (x : locks.State) (writer : ℕ) → EndMove w b x writer → hard w b writer ≤ up_to (ended_at (at x.writers writer)) (durable_by (fin.get b.lives writer))
 most_goes w b x writer (inl same) =
@@ -137,10 +152,14 @@ recovery_moves w b x ends None h = h
 recovery_moves w b x ends (Some r) h =
     stage_moves (log_kept w) (end_of w r.writer) (ended_at (at x.writers r.writer)) (end_stays w b x r.writer (ends r.writer)) r.writer r.stage h
 
-life_moves : (w : World) (b : Beside) (x : locks.State) (p : Past) → LockMove w b x p → (writer : ℕ) (l : Life)
+roster_moves : MoveLaws → (s t : locks.State) (entries : List RosterEntry) → lock_goes.Goes s t → RosterKept s entries → RosterKept t entries
+roster_moves law s t entries goes (inl none) = inl none
+roster_moves law s t entries goes (inr told) = inr (record { message = told.message; says = told.says; fact = law.tells.of_locks s t told.message goes told.fact })
+
+life_moves : MoveLaws → (w : World) (b : Beside) (x : locks.State) (p : Past) → LockMove w b x p → (writer : ℕ) (l : Life)
     → LifeFact (locks_kept w) (log_kept w) (end_of w) (log_by b writer) writer l
     → LifeFact x (log_kept w) (λ v. ended_at (at x.writers v)) (log_by b writer) writer l
-life_moves w b x p move writer l f =
+life_moves law w b x p move writer l f =
     let later = move.goes.writers writer f.entry f.known in
     record {
       named = f.named;
@@ -151,6 +170,7 @@ life_moves w b x p move writer l f =
       log_kept = f.log_kept;
       epochs = λ page. at_most (lease_of l.work.leases page).epoch (page_in (locks_kept w) page).epoch (page_in x page).epoch (f.epochs page) (move.goes.pages page).epoch;
       recovery = recovery_moves w b x move.ends l.recovery f.recovery;
+      roster = roster_moves law (locks_kept w) x l.roster move.goes f.roster;
     }
 
 -- A writer that the lock manager doesn't know has no life.
@@ -196,12 +216,12 @@ end_fact : (w : World) (b : Beside) (x : locks.State) (writer : ℕ) → ((end :
 end_fact w b x writer h (inl same) end is = h end (sym same ∙ is)
 end_fact w b x writer h (inr g) end is = let one : g.end ≡ end = cc (g.now, is) in subst (EndFact (durable_by (fin.get b.lives writer))) one g.fact
 
-lives_move : (w : World) (b : Beside) (lock : Option locks.State) (d : Disk Message) (p : Past) (messages : List Message)
+lives_move : MoveLaws → (w : World) (b : Beside) (lock : Option locks.State) (d : Disk Message) (p : Past) (messages : List Message)
     → LockMove w b (kept d) p → RunsAs (kept d) lock → LivesHold w b → LivesHold (moves w lock d p messages) b
-lives_move w b lock d p messages move runs h = record {
+lives_move law w b lock d p messages move runs h = record {
   lock = runs;
   boots = boots_move w b (kept d) p move h.boots;
-  lives = λ writer l is. life_moves w b (kept d) p move writer l (h.lives writer l is);
+  lives = λ writer l is. life_moves law w b (kept d) p move writer l (h.lives writer l is);
   none = h.none;
   masters = λ number s is. let f = h.masters number s is in record { named = f.named; boot = f.boot; first = f.first; joined = joined_moves w b (kept d) p h move s s.life f.joined };
   ends = λ writer end is. end_fact w b (kept d) writer (h.ends writer) (move.ends writer) end is;
@@ -226,16 +246,19 @@ lock_says v m h = subst (SaysFrom v m) (sym h.sender) h
 
 pub lock_holds : MoveLaws → (w : World) (b : Beside) (lock : Option locks.State) (d : Disk Message) (p : Past) (messages : List Message)
     → LockMove w b (kept d) p → RunsAs (kept d) lock → AllByRecursion (lock_told.MessageFact (kept d)) messages
-    → LogsHold w b → LogsHold (moves w lock d p messages) b
+    → LogsHold w b → StepKeeps w b (moves w lock d p messages) b
 lock_holds law w b lock d p messages move runs told h =
     let t = moves w lock d p messages in
     let on : ViewGoes (view w b) (view t b) = view_moves law w b lock d p messages move in
     record {
-      stores = stores_move law w b lock d p messages move.ends h.stores;
-      lives = lives_move w b lock d p messages move runs h.lives;
-      sent = both (Says (view t b)) w.sent messages
-          (each (Says (view w b)) (Says (view t b)) (λ m. sayings_stay law.tells (view w b) (view t b) m on) w.sent h.sent)
-          (each (lock_told.MessageFact (kept d)) (Says (view t b)) (λ m. lock_says (view t b) m) messages told);
+      holds = record {
+        stores = stores_move law w b lock d p messages move.ends h.stores;
+        lives = lives_move law w b lock d p messages move runs h.lives;
+        sent = both (Says (view t b)) w.sent messages
+            (each (Says (view w b)) (Says (view t b)) (λ m. sayings_stay law.tells (view w b) (view t b) m on) w.sent h.sent)
+            (each (lock_told.MessageFact (kept d)) (Says (view t b)) (λ m. lock_says (view t b) m) messages told);
+      };
+      goes = on;
     }
 
 -- A disk with the same records, what is kept of the run as it was.

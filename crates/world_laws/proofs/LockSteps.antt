@@ -33,13 +33,14 @@ use Rattle.world_model.specs.Disk.{Armed, Disk, Worked, appended, appended_as, a
 use Rattle.world_model.specs.Past.{managed, managed_by}
 use Rattle.world_model.specs.World.{World, Effect, Past, or_zero}
 use Rattle.world_model.specs.Nodes.{lock_keeps, lock_takes, lock_ticks, message_size}
-use Rattle.world_model.specs.Step.{if_up, lock_after, lock_opens, runs, starts}
+use Rattle.world_model.specs.Step.{if_up, lock_opens, runs, starts}
 use Rattle.world_laws.specs.Beside.{Beside, durable_by, up_to}
-use Rattle.world_laws.specs.Invariant.{LockDeliveryHolds, LockStepHolds, LogsHold}
+use Rattle.world_laws.specs.Invariant.{LockDeliveryHolds, LockStepHolds, LogsHold, StepKeeps}
 use Rattle.world_laws.specs.Kept.{IsOneOfThree, locks_kept, log_kept}
 use Rattle.world_laws.specs.Lives.{RunsAs}
 use Rattle.world_laws.specs.Messages.{MasterSays, Says, SaysFrom, View, view}
 use Rattle.world_laws.proofs.LockEnds.{Ends, OneEnd, ends_of, ended_here, ended_other}
+use Rattle.world_laws.proofs.LockLemmas.{after_one}
 use Rattle.world_laws.proofs.LockMoves.{EndMove, GivenEnd, LockMove, MoveLaws, kept, lock_holds, moves, same_move}
 use Rattle.world_laws.proofs.MarkLemmas.{reached_marked}
 use Rattle.world_laws.proofs.StoreLemmas.{get_here, set_other}
@@ -222,10 +223,6 @@ record LeavesLocks (w : World) (m : Message) (k : Worked Message) : Type 0 where
   done : k.done ≡ true → kept k.disk ≡ next w m
   failed : k.done ≡ false → ((kept k.disk ≡ next w m) × (nat_lt (length w.lock_disk.records) (length k.disk.records) ≡ true)) ⊎ ((k.disk.records ≡ w.lock_disk.records) × (nat_lt (length w.lock_disk.records) (length k.disk.records) ≡ false))
 
-after_one : (s : State) (ms : List Message) (m : Message) → after s (ms ++ m ∷ []) ≡ (step (after s ms) m).0
-after_one s [] m = refl
-after_one s (x ∷ ms) m = after_one (step s x).0 ms m
-
 one_longer : (ms : List Message) (m : Message) → nat_lt (length ms) (length (ms ++ m ∷ [])) ≡ true
 one_longer ms m = let long : length (ms ++ m ∷ []) ≡ length ms + 1 = length-append ms (m ∷ []) in grind (arith, nat_tests)
 
@@ -252,62 +249,58 @@ leaves law w m = by (step (locks_kept w) m).1 refl
 
 goes_on : LockLaws → (w : World) (b : Beside) (m : Message) (lock : Option State) (d : Disk Message) (messages : List Message)
     → kept d ≡ next w m → RunsAs (kept d) lock → AllByRecursion (MessageFact (next w m)) messages → Says (view w b) m → LogsHold w b
-    → LogsHold (moves w lock d (past_after w m) messages) b
+    → StepKeeps w b (moves w lock d (past_after w m) messages) b
 goes_on law w b m lock d messages same runs told says h =
     lock_holds law.of_moves w b lock d (past_after w m) messages
     (subst (λ (x : State). LockMove w b x (past_after w m)) (sym same) (step_moves law w b m says h)) runs
     (subst (λ (x : State). AllByRecursion (MessageFact x) messages) (sym same) told) h
 
 stays : LockLaws → (w : World) (b : Beside) (lock : Option State) (d : Disk Message) → d.records ≡ w.lock_disk.records → RunsAs (kept d) lock → LogsHold w b
-    → LogsHold (moves w lock d w.past []) b
+    → StepKeeps w b (moves w lock d w.past []) b
 stays law w b lock d same runs h = lock_holds law.of_moves w b lock d w.past [] (same_move law.still w b d same h) runs tt h
 
 keeps : LockLaws → (w : World) (b : Beside) (m : Message) (k : Worked Message) → LeavesLocks w m k → Says (view w b) m → LogsHold w b
-    → LogsHold (lock_keeps w m (locks_kept w) (next w m) (step (locks_kept w) m).2 k).world b
+    → StepKeeps w b (lock_keeps w m (locks_kept w) (next w m) (step (locks_kept w) m).2 k).world b
 keeps law w b m k l says h = by k.done refl
   where
     lost : ((kept k.disk ≡ next w m) × (nat_lt (length w.lock_disk.records) (length k.disk.records) ≡ true)) ⊎ ((k.disk.records ≡ w.lock_disk.records) × (nat_lt (length w.lock_disk.records) (length k.disk.records) ≡ false))
-        → LogsHold (moves w None k.disk (cond (nat_lt (length w.lock_disk.records) (length k.disk.records)) (past_after w m) w.past) []) b
-    lost (inl is) = subst (λ (c : Bool). LogsHold (moves w None k.disk (cond c (past_after w m) w.past) []) b) (sym is.1) (goes_on law w b m None k.disk [] is.0 tt tt says h)
-    lost (inr is) = subst (λ (c : Bool). LogsHold (moves w None k.disk (cond c (past_after w m) w.past) []) b) (sym is.1) (stays law w b None k.disk is.0 tt h)
+        → StepKeeps w b (moves w None k.disk (cond (nat_lt (length w.lock_disk.records) (length k.disk.records)) (past_after w m) w.past) []) b
+    lost (inl is) = subst (λ (c : Bool). StepKeeps w b (moves w None k.disk (cond c (past_after w m) w.past) []) b) (sym is.1) (goes_on law w b m None k.disk [] is.0 tt tt says h)
+    lost (inr is) = subst (λ (c : Bool). StepKeeps w b (moves w None k.disk (cond c (past_after w m) w.past) []) b) (sym is.1) (stays law w b None k.disk is.0 tt h)
 
-    by : (c : Bool) → k.done ≡ c → LogsHold (lock_keeps w m (locks_kept w) (next w m) (step (locks_kept w) m).2 (record { disk = k.disk; done = c })).world b
+    by : (c : Bool) → k.done ≡ c → StepKeeps w b (lock_keeps w m (locks_kept w) (next w m) (step (locks_kept w) m).2 (record { disk = k.disk; done = c })).world b
     by true is =
         goes_on law w b m (Some (next w m)) k.disk (step (locks_kept w) m).2 (l.done is) (sym (l.done is))
         (law.sent (locks_kept w) m (facts law w) (named_epoch (view w b) m.from m.note (said (view w b) m m.from says))) says h
     by false is = lost (l.failed is)
 
-takes : LockLaws → (w : World) (b : Beside) (m : Message) → Says (view w b) m → LogsHold w b → (o : Option State) → w.lock ≡ o → LogsHold (lock_takes w m o).world b
+takes : LockLaws → (w : World) (b : Beside) (m : Message) → Says (view w b) m → LogsHold w b → (o : Option State) → w.lock ≡ o → StepKeeps w b (lock_takes w m o).world b
 takes law w b m says h None is = stays law w b w.lock w.lock_disk refl h.lives.lock h
 takes law w b m says h (Some s) is =
     let same : s ≡ locks_kept w = subst (RunsAs (locks_kept w)) is h.lives.lock in
-    subst (λ (x : State). LogsHold (lock_takes w m (Some x)).world b) (sym same) (keeps law w b m _ (leaves law w m) says h)
+    subst (λ (x : State). StepKeeps w b (lock_takes w m (Some x)).world b) (sym same) (keeps law w b m _ (leaves law w m) says h)
 
 pub lock_delivery_holds : LockLaws → LockDeliveryHolds
 lock_delivery_holds law w b m says h = takes law w b m says h w.lock refl
 
 -- ---- the other steps
 
-started_after : (s : State) (ms : List Message) → lock_after s ms ≡ after s ms
-started_after s [] = refl
-started_after s (m ∷ ms) = started_after (step s m).0 ms
-
-ticks : LockLaws → (w : World) (b : Beside) → LogsHold w b → (o : Option State) → LogsHold (lock_ticks w o).world b
+ticks : LockLaws → (w : World) (b : Beside) → LogsHold w b → (o : Option State) → StepKeeps w b (lock_ticks w o).world b
 ticks law w b h None = stays law w b w.lock w.lock_disk refl h.lives.lock h
 ticks law w b h (Some s) = stays law w b w.lock w.lock_disk refl h.lives.lock h
 
-up : LockLaws → (w : World) (b : Beside) (c : Bool) (e : Effect) → LogsHold w b → LogsHold e.world b → LogsHold (if_up w LockManager c e).world b
+up : LockLaws → (w : World) (b : Beside) (c : Bool) (e : Effect) → LogsHold w b → StepKeeps w b e.world b → StepKeeps w b (if_up w LockManager c e).world b
 up law w b true e h k = k
 up law w b false e h k = stays law w b w.lock w.lock_disk refl h.lives.lock h
 
-pub lock_opened : LockLaws → (w : World) (b : Beside) (k : Worked Message) → k.disk.records ≡ w.lock_disk.records → LogsHold w b → LogsHold (lock_opens w k).world b
+pub lock_opened : LockLaws → (w : World) (b : Beside) (k : Worked Message) → k.disk.records ≡ w.lock_disk.records → LogsHold w b → StepKeeps w b (lock_opens w k).world b
 lock_opened law w b k same h = by k.done
   where
-    by : (c : Bool) → LogsHold (lock_opens w (record { disk = k.disk; done = c })).world b
-    by true = stays law w b (Some (lock_after start k.disk.records)) k.disk same (started_after start k.disk.records) h
+    by : (c : Bool) → StepKeeps w b (lock_opens w (record { disk = k.disk; done = c })).world b
+    by true = stays law w b (Some (after start k.disk.records)) k.disk same refl h
     by false = stays law w b w.lock k.disk same (subst (λ (ms : List Message). RunsAs (after start ms) w.lock) (sym same) h.lives.lock) h
 
-starts_up : LockLaws → (w : World) (b : Beside) → LogsHold w b → (c : Bool) → LogsHold (starts w LockManager c).world b
+starts_up : LockLaws → (w : World) (b : Beside) → LogsHold w b → (c : Bool) → StepKeeps w b (starts w LockManager c).world b
 starts_up law w b h true = stays law w b w.lock w.lock_disk refl h.lives.lock h
 starts_up law w b h false = lock_opened law w b (opened message_size w.lock_disk) (opened_same w.lock_disk) h
 

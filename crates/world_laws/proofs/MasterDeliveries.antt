@@ -13,15 +13,16 @@ use Rattle.tm_base.specs.declared.command.Command.{Command}
 use Rattle.tm_base.specs.declared.reply.Reply.{Reply}
 use Rattle.tm_base.specs.declared.message.Message.{Message}
 use Rattle.tm_base.specs.declared.message.Node.{Node}
-use Rattle.tm_base.specs.declared.message.Node.TheVariants.{Master, LogStore}
+use Rattle.tm_base.specs.declared.message.Node.TheVariants.{Master, LogStore, PageStore, LockManager, Replica}
 use Rattle.tm_base.specs.declared.message.Note.{Note}
+use Rattle.tm_base.specs.declared.message.Note.TheVariants as note
 use Rattle.lease_desk.specs.Desk.{lease_of}
 use Rattle.lock_model.specs.declared.writer.WriterEntry.{WriterEntry}
 use Rattle.lock_model.specs.State.{page_in}
-use Rattle.lock_model.specs.Told.{RegisteredFact}
+use Rattle.lock_model.specs.Told.{RegisteredFact, MessageFact}
 use Rattle.log_writer.specs.Log.{durable_seq, is_marked, marked_of}
 use Rattle.log_writer.specs.declared.logged.Logged.{Logged}
-use Rattle.master_model.specs.Causes.{Acknowledges, AcknowledgesOwn, EpochCame, Joins, epoch_in, is_noted}
+use Rattle.master_model.specs.Causes.{Acknowledges, AcknowledgesOwn, EpochCame, Joins, epoch_in, is_noted, roster_in}
 use Rattle.master_model.specs.Facts.{Brings, Facts, JoinsAfter, LifeFacts, WorkFacts, groups_in}
 use Rattle.master_model.specs.Goes.{Goes, JoinedGoes}
 use Rattle.master_model.specs.Stages.{RecoveryAsked, RecoveryGoes, RecoveryIsAsked, StageAsked, StagesAreSaid}
@@ -31,18 +32,22 @@ use Rattle.master_model.specs.State.{Life, Recovery, State, durable, writer_of}
 use Rattle.master_model.specs.Step.{on_command, step, tick}
 use Rattle.master_model.specs.Told.{Registers, Sent, SentBy}
 use Rattle.store_model.specs.LogState.{LogStoreState, log_of}
+use Rattle.tm_base.specs.declared.message.RosterEntry.{RosterEntry}
+use Rattle.store_model.specs.LogTold as store_told
+use Rattle.store_model.specs.PageAnswers.{IsPageNote}
+use Rattle.replica_model.specs.Told.{IsQuestion}
 use Rattle.world_model.specs.Past.{commanded, lived, read_in_life}
 use Rattle.world_model.specs.World.{World, Past, or_zero}
 use Rattle.world_model.specs.Nodes.{master_takes, master_ticks}
 use Rattle.world_model.specs.Step.{commands_some}
 use Rattle.world_laws.specs.Beside.{Beside, durable_by, life_in, log_by, up_to, with_life, with_moved}
-use Rattle.world_laws.specs.Invariant.{CommandHolds, LogsHold, MasterDeliveryHolds, MasterTickHolds}
+use Rattle.world_laws.specs.Invariant.{CommandHolds, LogsHold, MasterDeliveryHolds, MasterTickHolds, StepKeeps}
 use Rattle.world_laws.specs.Kept.{end_of, hard, locks_kept, log_kept}
-use Rattle.world_laws.specs.Lives.{JoinedAs, JoinedFact, LifeFact, MasterFact, RecoveryFact, StageFact}
+use Rattle.world_laws.specs.Lives.{JoinedAs, JoinedFact, LifeFact, MasterFact, RecoveryFact, RosterTold, StageFact}
 use Rattle.world_laws.specs.Messages.{AllSay, MasterSays, Says, SaysFrom, View, view}
 use Rattle.world_laws.proofs.ApartLemmas.{apart_holds, nothing_holds}
-use Rattle.world_laws.proofs.LockMoves.{at_itself}
-use Rattle.world_laws.proofs.MasterMoves.{LifeMove, StillLaws, after, at_life, at_log, durable_stands, each_number, life_holds, world}
+use Rattle.world_laws.proofs.LockMoves.{at_itself, StillLaws, view_still}
+use Rattle.world_laws.proofs.MasterMoves.{LifeMove, after, at_life, at_log, durable_stands, each_number, life_holds, world}
 use Rattle.world_laws.proofs.MasterSteps.{Stepped, goes_on, recovery_by}
 use Rattle.world_laws.proofs.MasterTold.{Heard, heard_from, life_says}
 use Rattle.world_laws.proofs.PastLemmas.{hard_after, read_same, worked_ended, worked_hard}
@@ -59,6 +64,7 @@ pub record MessageLaws : Type 0 where
   pub epochs : (s : State) (m : Message) (page : ℕ) → Brings m → (epoch_in (step s m).0.life page ≡ epoch_in s.life page) ⊎ EpochCame s.life m page (epoch_in (step s m).0.life page)
   pub recoveries : (s : State) (m : Message) → RecoveryGoes m s.life (step s m).0.life
   pub stages : (s : State) (m : Message) → StagesAreSaid (step s m).0.life (step s m).1
+  pub rosters : (s : State) (m : Message) → (roster_in (step s m).0.life ≡ roster_in s.life) ⊎ (m.note ≡ note.Roster (roster_in (step s m).0.life))
 
 pub record CommandLaws : Type 0 where
   pub facts : (begun : ℕ) (s : State) (session : ℕ) (asked : Command) → Facts begun s → Facts begun (on_command s session asked).0
@@ -69,6 +75,7 @@ pub record CommandLaws : Type 0 where
   pub epochs : (s : State) (session : ℕ) (asked : Command) (page : ℕ) → epoch_in (on_command s session asked).0.life page ≡ epoch_in s.life page
   pub recoveries : (s : State) (session : ℕ) (asked : Command) → RecoveryIsAsked asked s.life (on_command s session asked).0.life
   pub stages : (s : State) (session : ℕ) (asked : Command) → StagesAreSaid (on_command s session asked).0.life (on_command s session asked).2
+  pub rosters : (s : State) (session : ℕ) (asked : Command) → roster_in (on_command s session asked).0.life ≡ roster_in s.life
 
 pub record MasterLaws : Type 0 where
   pub still : StillLaws
@@ -81,6 +88,17 @@ two : (P : Option Life → Option Life → Type 0) (a b o q : Option Life) → a
 two P a b o q so sq h = subst (λ (x : Option Life). P x q) so (subst (λ (y : Option Life). P a y) sq h)
 
 -- ---- a message to a life
+
+-- A roster is the lock manager's.
+abbrev RosterHeard : World → Message → Type 0
+RosterHeard w m = (entries : List RosterEntry) → m.note ≡ note.Roster entries → MessageFact (locks_kept w) m
+
+roster_heard : (w : World) (b : Beside) (m : Message) (from : Node) → SaysFrom (view w b) m from → RosterHeard w m
+roster_heard w b m (Master number) h entries says = absurd (subst (MasterSays (view w b) number m.to) says h)
+roster_heard w b m (LogStore store) h entries says = absurd (subst (store_told.NoteFact (log_kept w store) (hard w b)) says h.0.note)
+roster_heard w b m (PageStore number) h entries says = absurd (subst IsPageNote says h)
+roster_heard w b m LockManager h entries says = h
+roster_heard w b m (Replica number) h entries says = absurd (subst IsQuestion says h)
 
 module _ (law : MasterLaws) (w : World) (b : Beside) (number : ℕ) (s : State) (m : Message) where
   abbrev new : State
@@ -95,8 +113,8 @@ module _ (law : MasterLaws) (w : World) (b : Beside) (number : ℕ) (s : State) 
   epoch_came l page epoch heard (inr (fresh, one)) =
       subst (λ (k : ℕ). k ≤ (page_in (locks_kept w) page).epoch) (sym one) (subst (λ (n : Note). Heard (view w b) m.to m.stamp.0 n m.from) fresh.says heard)
 
-  message_stepped : (old l : Life) → s.life ≡ Some old → new.life ≡ Some l → (start : ℕ) → WorkFacts start old.work → Brings m → Heard (view w b) m.to m.stamp.0 m.note m.from → Stepped w old l (step s m).1
-  message_stepped old l so sq start facts brings heard =
+  message_stepped : (old l : Life) → s.life ≡ Some old → new.life ≡ Some l → (start : ℕ) → WorkFacts start old.work → Brings m → Heard (view w b) m.to m.stamp.0 m.note m.from → RosterHeard w m → Stepped w old l (step s m).1
+  message_stepped old l so sq start facts brings heard told =
       let goes : Goes s new = law.message.goes start s m (subst (LifeFacts start) (sym so) facts) brings in
       record {
         goes = two JoinedGoes s.life new.life (Some old) (Some l) so sq goes.life;
@@ -107,10 +125,15 @@ module _ (law : MasterLaws) (w : World) (b : Beside) (number : ℕ) (s : State) 
         recovery = λ f. recovery_by (view w b) m.from m.to m.stamp.0 m.note old.recovery l.recovery (two (λ o q. RecoveryGoes m o q) s.life new.life (Some old) (Some l) so sq (law.message.recoveries s m)) heard f;
         epochs = λ page. by_epoch page
             (two (λ o q. (epoch_in q page ≡ epoch_in o page) ⊎ EpochCame o m page (epoch_in q page)) s.life new.life (Some old) (Some l) so sq (law.message.epochs s m page brings));
+        roster = by_roster (two (λ o q. (roster_in q ≡ roster_in o) ⊎ (m.note ≡ note.Roster (roster_in q))) s.life new.life (Some old) (Some l) so sq (law.message.rosters s m));
         sends = subst (λ (q : Option Life). SentBy new q (step s m).1) sq (law.message.sends s m);
         stages = subst (λ (q : Option Life). StagesAreSaid q (step s m).1) sq (law.message.stages s m);
       }
     where
+      by_roster : (l.roster ≡ old.roster) ⊎ (m.note ≡ note.Roster l.roster) → (l.roster ≡ old.roster) ⊎ RosterTold (locks_kept w) l.roster
+      by_roster (inl same) = inl same
+      by_roster (inr says) = inr (record { message = m; says = says; fact = told l.roster says })
+
       by_mark : (seq store : ℕ) → (is_marked old.work.log.groups seq store ≡ true) ⊎ Acknowledges m l.work.log.writer seq store
           → (is_marked old.work.log.groups seq store ≡ true) ⊎ (seq ≤ length (log_of (log_kept w store) (writer_of l.work)).groups)
       by_mark seq store (inl marked) = inl marked
@@ -147,6 +170,7 @@ command_stepped law w s session asked old l so sq start facts =
       marks = λ seq store is. inl (subst (λ (o : Option Life). is_noted o seq store ≡ true) so (law.command.marks s session asked seq store (subst (λ (q : Option Life). is_noted q seq store ≡ true) (sym sq) is)));
       recovery = λ f. asked_recovery w asked l old.recovery l.recovery (two (λ o q. RecoveryIsAsked asked o q) s.life new.life (Some old) (Some l) so sq (law.command.recoveries s session asked)) f;
       epochs = λ page. inl (two (λ o q. epoch_in q page ≡ epoch_in o page) s.life new.life (Some old) (Some l) so sq (law.command.epochs s session asked page));
+      roster = inl (two (λ o q. roster_in q ≡ roster_in o) s.life new.life (Some old) (Some l) so sq (law.command.rosters s session asked));
       sends = subst (λ (q : Option Life). SentBy new q (on_command s session asked).2) sq (law.command.sends s session asked);
       stages = subst (λ (q : Option Life). StagesAreSaid q (on_command s session asked).2) sq (law.command.stages s session asked);
     }
@@ -164,37 +188,40 @@ register_says v number new ms named one most h = each (Registers new) (Says v) (
         let said : MasterSays v number m.to m.note = subst (MasterSays v number m.to) (sym f.says) (one, most) in
         subst (SaysFrom v m) (sym (f.sender ∙ ap (λ (k : ℕ). Master k) named)) said
 
-waits_on : (w : World) (b : Beside) (number : ℕ) (s new : State) (p : Past) (messages : List Message) → MasterFact (locks_kept w).writers b (or_zero (fin.get w.boots number)) number s
+waits_on : StillLaws → (w : World) (b : Beside) (number : ℕ) (s new : State) (p : Past) (messages : List Message) → MasterFact (locks_kept w).writers b (or_zero (fin.get w.boots number)) number s
     → s.life ≡ None → new.life ≡ None → new.number ≡ s.number → new.boot ≡ s.boot → p.hard ≡ w.past.hard → p.ended ≡ w.past.ended → AllByRecursion (Registers new) messages
-    → LogsHold w b → LogsHold (stays w number new p messages) b
-waits_on w b number s new p messages f so sq named boot same ended told h =
+    → LogsHold w b → StepKeeps w b (stays w number new p messages) b
+waits_on law w b number s new p messages f so sq named boot same ended told h =
     let joins : JoinedAs (locks_kept w).writers b s None = subst (JoinedAs (locks_kept w).writers b s) so f.joined in
     let waits : JoinedAs (locks_kept w).writers b new None = λ writer e is master of. joins writer e is (master ∙ named) (of ∙ boot) in
     record {
-      stores = h.stores;
-      lives = record {
-        lock = h.lives.lock;
-        boots = h.lives.boots;
-        lives = h.lives.lives;
-        none = h.lives.none;
-        masters =
-            each_number (λ (n : ℕ). (x : State) → fin.get (fin.insert w.master number new) n ≡ Some x → MasterFact (locks_kept w).writers b (or_zero (fin.get w.boots n)) n x) number
-            (λ x is.
-            let one : new ≡ x = cc (sym (get_here w.master number new) ∙ is) in
-            subst (λ (y : State). MasterFact (locks_kept w).writers b (or_zero (fin.get w.boots number)) number y) one (record {
-              named = named ∙ f.named;
-              boot = boot ∙ f.boot;
-              first = subst (λ (k : ℕ). 1 ≤ k) (sym boot) f.first;
-              joined = subst (JoinedAs (locks_kept w).writers b new) (sym sq) waits;
-            }))
-            (λ n apart x is. h.lives.masters n x (sym (set_other w.master number new n apart) ∙ is));
-        ends = h.lives.ends;
-        past = λ v. ap (λ (hs : FinMap nat_cmp ℕ). or_zero (fin.get hs v)) same ∙ h.lives.past v;
-        closed = λ v. ap (λ ws. sets.contains ws v) ended ∙ h.lives.closed v;
+      goes = view_still law w b;
+      holds = record {
+        stores = h.stores;
+        lives = record {
+          lock = h.lives.lock;
+          boots = h.lives.boots;
+          lives = h.lives.lives;
+          none = h.lives.none;
+          masters =
+              each_number (λ (n : ℕ). (x : State) → fin.get (fin.insert w.master number new) n ≡ Some x → MasterFact (locks_kept w).writers b (or_zero (fin.get w.boots n)) n x) number
+              (λ x is.
+              let one : new ≡ x = cc (sym (get_here w.master number new) ∙ is) in
+              subst (λ (y : State). MasterFact (locks_kept w).writers b (or_zero (fin.get w.boots number)) number y) one (record {
+                named = named ∙ f.named;
+                boot = boot ∙ f.boot;
+                first = subst (λ (k : ℕ). 1 ≤ k) (sym boot) f.first;
+                joined = subst (JoinedAs (locks_kept w).writers b new) (sym sq) waits;
+              }))
+              (λ n apart x is. h.lives.masters n x (sym (set_other w.master number new n apart) ∙ is));
+          ends = h.lives.ends;
+          past = λ v. ap (λ (hs : FinMap nat_cmp ℕ). or_zero (fin.get hs v)) same ∙ h.lives.past v;
+          closed = λ v. ap (λ ws. sets.contains ws v) ended ∙ h.lives.closed v;
+        };
+        sent = both (Says (view w b)) w.sent messages h.sent
+            (register_says (view w b) number new messages (named ∙ f.named) (subst (λ (k : ℕ). 1 ≤ k) (sym boot) f.first)
+            (subst (λ (k : ℕ). new.boot ≤ k) (boot ∙ f.boot) (at_itself new.boot)) told);
       };
-      sent = both (Says (view w b)) w.sent messages h.sent
-          (register_says (view w b) number new messages (named ∙ f.named) (subst (λ (k : ℕ). 1 ≤ k) (sym boot) f.first)
-          (subst (λ (k : ℕ). new.boot ≤ k) (boot ∙ f.boot) (at_itself new.boot)) told);
     }
 
 -- ---- a life begins
@@ -263,6 +290,7 @@ module _ (law : MasterLaws) (w : World) (b : Beside) (number : ℕ) (s : State) 
             (subst (λ (o : Option Life). JoinsAfter reg.known.entry.start.0 o m.stamp.0) (sym it.was) reg.start));
         log_kept = ap (λ (gs : List Logged). groups_in gs) (no_groups it) ∙ sym (append-nil (log_by b writer) ∙ it.all.lives.none writer (no_life it));
         epochs = λ page. by page (two (λ o q. (epoch_in q page ≡ epoch_in o page) ⊎ EpochCame o m page (epoch_in q page)) s.life then.life None (Some l) it.was it.is (law.message.epochs s m page it.brings));
+        roster = inl (ap (λ (x : Life). x.roster) (how it).life);
         recovery = subst (RecoveryFact (log_kept w) (end_of w)) (sym (two (λ o q. RecoveryGoes m o q) s.life then.life None (Some l) it.was it.is (law.message.recoveries s m))) tt;
       }
     where
@@ -302,7 +330,7 @@ module _ (law : MasterLaws) (w : World) (b : Beside) (number : ℕ) (s : State) 
     closed = refl;
   }
 
-  pub begins_life : Begins → LogsHold (stays w number then w.past sent) (with_life b None (Some l))
+  pub begins_life : Begins → StepKeeps w b (stays w number then w.past sent) (with_life b None (Some l))
   begins_life it =
       let f = begun_fact it in
       life_holds w b number then w.past sent l [] law.still (begun_move it)
@@ -323,23 +351,23 @@ old_facts w b number s old f so h =
     let joined : JoinedFact (locks_kept w).writers b s old = subst (JoinedAs (locks_kept w).writers b s) so f.joined in
     h.lives.lives (writer_of old.work) old joined.last
 
-message_goes : MasterLaws → (w : World) (b : Beside) (number : ℕ) (s : State) (m : Message) → m.to ≡ Master number → Brings m → Heard (view w b) m.to m.stamp.0 m.note m.from
+message_goes : MasterLaws → (w : World) (b : Beside) (number : ℕ) (s : State) (m : Message) → m.to ≡ Master number → Brings m → Heard (view w b) m.to m.stamp.0 m.note m.from → RosterHeard w m
     → MasterFact (locks_kept w).writers b (or_zero (fin.get w.boots number)) number s → LogsHold w b
-    → (o : Option Life) → s.life ≡ o → (q : Option Life) → (step s m).0.life ≡ q → LogsHold (stays w number (step s m).0 (lived w.past o q) (step s m).1) (with_life b o q)
-message_goes law w b number s m to brings heard f h None so None sq =
+    → (o : Option Life) → s.life ≡ o → (q : Option Life) → (step s m).0.life ≡ q → StepKeeps w b (stays w number (step s m).0 (lived w.past o q) (step s m).1) (with_life b o q)
+message_goes law w b number s m to brings heard told f h None so None sq =
     let goes : Goes s (step s m).0 = law.message.goes 0 s m (subst (LifeFacts 0) (sym so) tt) brings in
-    waits_on w b number s (step s m).0 w.past (step s m).1 f so sq goes.number goes.boot refl refl (subst (λ (q : Option Life). SentBy (step s m).0 q (step s m).1) sq (law.message.sends s m)) h
-message_goes law w b number s m to brings heard f h None so (Some l) sq =
+    waits_on law.still w b number s (step s m).0 w.past (step s m).1 f so sq goes.number goes.boot refl refl (subst (λ (q : Option Life). SentBy (step s m).0 q (step s m).1) sq (law.message.sends s m)) h
+message_goes law w b number s m to brings heard told f h None so (Some l) sq =
     begins_life law w b number s m l (record { to = to; brings = brings; heard = heard; master = f; was = so; is = sq; all = h })
-message_goes law w b number s m to brings heard f h (Some old) so None sq =
+message_goes law w b number s m to brings heard told f h (Some old) so None sq =
     let fact = old_facts w b number s old f so h in
     let goes : Goes s (step s m).0 = law.message.goes fact.entry.start.0 s m (subst (LifeFacts fact.entry.start.0) (sym so) fact.facts) brings in
     absurd (two JoinedGoes s.life (step s m).0.life (Some old) None so sq goes.life)
-message_goes law w b number s m to brings heard f h (Some old) so (Some l) sq =
+message_goes law w b number s m to brings heard told f h (Some old) so (Some l) sq =
     let fact = old_facts w b number s old f so h in
     let goes : Goes s (step s m).0 = law.message.goes fact.entry.start.0 s m (subst (LifeFacts fact.entry.start.0) (sym so) fact.facts) brings in
     goes_on w b number s (step s m).0 (lived w.past (Some old) (Some l)) (step s m).1 old l law.still
-    (message_stepped law w b number s m old l so sq fact.entry.start.0 fact.facts brings heard)
+    (message_stepped law w b number s m old l so sq fact.entry.start.0 fact.facts brings heard told)
     (record {
       master = f;
       was = so;
@@ -351,23 +379,23 @@ message_goes law w b number s m to brings heard f h (Some old) so (Some l) sq =
     }) h
 
 -- The master has the state after the step, and had the one before.
-had : (w : World) (b : Beside) (number : ℕ) (s new : State) (p : Past) (messages : List Message) → fin.get w.master number ≡ Some s → LogsHold (stays w number new p messages) (with_life b s.life new.life)
-    → LogsHold (stays w number new p messages) (with_moved b w (stays w number new p messages) (Some number))
+had : (w : World) (b : Beside) (number : ℕ) (s new : State) (p : Past) (messages : List Message) → fin.get w.master number ≡ Some s → StepKeeps w b (stays w number new p messages) (with_life b s.life new.life)
+    → StepKeeps w b (stays w number new p messages) (with_moved b w (stays w number new p messages) (Some number))
 had w b number s new p messages is h =
-    subst (λ (o : Option State). LogsHold (stays w number new p messages) (with_life b (life_in o) (life_in (fin.get (fin.insert w.master number new) number)))) (sym is)
-    (subst (λ (o : Option State). LogsHold (stays w number new p messages) (with_life b s.life (life_in o))) (sym (get_here w.master number new)) h)
+    subst (λ (o : Option State). StepKeeps w b (stays w number new p messages) (with_life b (life_in o) (life_in (fin.get (fin.insert w.master number new) number)))) (sym is)
+    (subst (λ (o : Option State). StepKeeps w b (stays w number new p messages) (with_life b s.life (life_in o))) (sym (get_here w.master number new)) h)
 
 -- There is no such master.
-had_none : (w : World) (b : Beside) (number : ℕ) → fin.get w.master number ≡ None → LogsHold w b → LogsHold (record w { sent = w.sent ++ [] }) (with_moved b w (record w { sent = w.sent ++ [] }) (Some number))
-had_none w b number is h =
-    subst (λ (o : Option State). LogsHold (record w { sent = w.sent ++ [] }) (with_life b (life_in o) (life_in o))) (sym is) (nothing_holds w b h)
+had_none : MasterLaws → (w : World) (b : Beside) (number : ℕ) → fin.get w.master number ≡ None → LogsHold w b → StepKeeps w b (record w { sent = w.sent ++ [] }) (with_moved b w (record w { sent = w.sent ++ [] }) (Some number))
+had_none law w b number is h =
+    subst (λ (o : Option State). StepKeeps w b (record w { sent = w.sent ++ [] }) (with_life b (life_in o) (life_in o))) (sym is) (nothing_holds law.still w b h)
 
 takes : MasterLaws → (w : World) (b : Beside) (number : ℕ) (m : Message) → m.to ≡ Master number → Says (view w b) m → Brings m → LogsHold w b → (o : Option State) → fin.get w.master number ≡ o
-    → LogsHold (master_takes w number m o).world (with_moved b w (master_takes w number m o).world (Some number))
-takes law w b number m to says brings h None is = had_none w b number is h
+    → StepKeeps w b (master_takes w number m o).world (with_moved b w (master_takes w number m o).world (Some number))
+takes law w b number m to says brings h None is = had_none law w b number is h
 takes law w b number m to says brings h (Some s) is =
     had w b number s (step s m).0 (lived w.past s.life (step s m).0.life) (step s m).1 is
-    (message_goes law w b number s m to brings (heard_from (view w b) m m.from says) (h.lives.masters number s is) h s.life refl (step s m).0.life refl)
+    (message_goes law w b number s m to brings (heard_from (view w b) m m.from says) (roster_heard w b m m.from says) (h.lives.masters number s is) h s.life refl (step s m).0.life refl)
 
 pub master_delivery_holds : MasterLaws → MasterDeliveryHolds
 master_delivery_holds law w b number m to says brings h = takes law w b number m to says brings h (fin.get w.master number) refl
@@ -380,11 +408,11 @@ said s session asked = (on_command s session asked).1
 command_goes : MasterLaws → (w : World) (b : Beside) (number : ℕ) (s : State) (session : ℕ) (asked : Command)
     → MasterFact (locks_kept w).writers b (or_zero (fin.get w.boots number)) number s → LogsHold w b
     → (o : Option Life) → s.life ≡ o → (q : Option Life) → (on_command s session asked).0.life ≡ q
-    → LogsHold (stays w number (on_command s session asked).0 (commanded w.past o q session asked (said s session asked)) (on_command s session asked).2) (with_life b o q)
+    → StepKeeps w b (stays w number (on_command s session asked).0 (commanded w.past o q session asked (said s session asked)) (on_command s session asked).2) (with_life b o q)
 command_goes law w b number s session asked f h None so None sq =
     let new = (on_command s session asked).0 in
     let goes : Goes s new = law.command.goes 0 s session asked (subst (LifeFacts 0) (sym so) tt) in
-    waits_on w b number s new (commanded w.past None None session asked (said s session asked)) (on_command s session asked).2 f so sq goes.number goes.boot refl refl
+    waits_on law.still w b number s new (commanded w.past None None session asked (said s session asked)) (on_command s session asked).2 f so sq goes.number goes.boot refl refl
     (subst (λ (q : Option Life). SentBy new q (on_command s session asked).2) sq (law.command.sends s session asked)) h
 command_goes law w b number s session asked f h None so (Some l) sq = absurd (cc (sym (law.command.waits s session asked so) ∙ sq))
 command_goes law w b number s session asked f h (Some old) so None sq =
@@ -412,8 +440,8 @@ command_goes law w b number s session asked f h (Some old) so (Some l) sq =
     }) h
 
 commands_some_hold : MasterLaws → (w : World) (b : Beside) (number session : ℕ) (asked : Command) → LogsHold w b → (o : Option State) → fin.get w.master number ≡ o
-    → LogsHold (commands_some w number session asked o).world (with_moved b w (commands_some w number session asked o).world (Some number))
-commands_some_hold law w b number session asked h None is = had_none w b number is h
+    → StepKeeps w b (commands_some w number session asked o).world (with_moved b w (commands_some w number session asked o).world (Some number))
+commands_some_hold law w b number session asked h None is = had_none law w b number is h
 commands_some_hold law w b number session asked h (Some s) is =
     had w b number s (on_command s session asked).0 (commanded w.past s.life (on_command s session asked).0.life session asked (said s session asked)) (on_command s session asked).2 is
     (command_goes law w b number s session asked (h.lives.masters number s is) h s.life refl (on_command s session asked).0.life refl)
@@ -446,10 +474,10 @@ tick_says law w b number s f h (Some l) so =
       epochs = fact.epochs;
     }) (subst (λ (q : Option Life). SentBy s q (tick s)) so (law.tick_sends s)) (subst (λ (q : Option Life). StagesAreSaid q (tick s)) so (law.tick_stages s))
 
-ticks : MasterLaws → (w : World) (b : Beside) (number : ℕ) → LogsHold w b → (o : Option State) → fin.get w.master number ≡ o → LogsHold (master_ticks w number o).world b
-ticks law w b number h None is = nothing_holds w b h
+ticks : MasterLaws → (w : World) (b : Beside) (number : ℕ) → LogsHold w b → (o : Option State) → fin.get w.master number ≡ o → StepKeeps w b (master_ticks w number o).world b
+ticks law w b number h None is = nothing_holds law.still w b h
 ticks law w b number h (Some s) is =
-    apart_holds w b w.page w.shelf w.replica w.lives w.past (tick s) refl refl (tick_says law w b number s (h.lives.masters number s is) h s.life refl) h
+    apart_holds law.still w b w.page w.shelf w.replica w.lives w.past (tick s) refl refl (tick_says law w b number s (h.lives.masters number s is) h s.life refl) h
 
 pub master_tick_holds : MasterLaws → MasterTickHolds
 master_tick_holds law w b number h = ticks law w b number h (fin.get w.master number) refl

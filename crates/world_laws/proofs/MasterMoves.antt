@@ -9,9 +9,7 @@ use Rattle.tm_data.specs.Orders.{writer_cmp}
 use Rattle.tm_data.specs.declared.log.Group.{Group}
 use Rattle.tm_base.specs.declared.message.Message.{Message}
 use Rattle.lock_model.specs.declared.writer.WriterEntry.{WriterEntry}
-use Rattle.lock_model.specs.State as locks
 use Rattle.lock_model.specs.State.{at}
-use Rattle.lock_model.specs.Goes as lock_goes
 use Rattle.lock_model.specs.Runs.{LogEnd}
 use Rattle.log_writer.specs.Log.{is_marked}
 use Rattle.master_model.specs.State.{Life, State, durable, writer_of}
@@ -19,12 +17,12 @@ use Rattle.store_model.specs.LogState.{LogStoreState, log_of}
 use Rattle.store_model.specs.LogGoes.{AreLonger, IsFront}
 use Rattle.world_model.specs.World.{World, Past, or_zero}
 use Rattle.world_laws.specs.Beside.{Beside, acked_by, durable_by, log_by, logged_by, or_none, up_to}
-use Rattle.world_laws.specs.Invariant.{LogsHold}
+use Rattle.world_laws.specs.Invariant.{LogsHold, StepKeeps}
 use Rattle.world_laws.specs.Kept.{end_of, hard, locks_kept, log_kept}
 use Rattle.world_laws.specs.Lives.{EndFact, JoinedAs, JoinedFact, LifeFact, LivesHold, MasterFact}
 use Rattle.world_laws.specs.LogStores.{RunsBy, RunsFrom, StoreHolds, StoresHold}
 use Rattle.world_laws.specs.Messages.{AllSay, Says, ViewGoes, view}
-use Rattle.world_laws.proofs.LockMoves.{MoveLaws, at_itself}
+use Rattle.world_laws.proofs.LockMoves.{at_itself, StillLaws}
 use Rattle.world_laws.proofs.MarkLemmas.{durable_marked}
 use Rattle.world_laws.proofs.MessageLemmas.{sayings_stay}
 use Rattle.world_laws.proofs.StoreLemmas.{get_here, set_other}
@@ -49,10 +47,6 @@ within groups reached h = by (nat_le 1 reached) refl
     by : (c : Bool) → nat_le 1 reached ≡ c → reached ≤ groups
     by true is = h (grind (arith, nat_tests))
     by false is = let none : reached < 1 = grind (arith, nat_tests) in omega (arith, none)
-
-pub record StillLaws : Type 0 where
-  pub of_moves : MoveLaws
-  pub lock_still : (s : locks.State) → lock_goes.Goes s s
 
 -- A life of master `number` has come to the state `l`, with some groups more in its log; the master is in state `new`.
 module _ (w : World) (b : Beside) (number : ℕ) (new : State) (p : Past) (messages : List Message) (l : Life) (more : List Group) where
@@ -225,19 +219,22 @@ module _ (w : World) (b : Beside) (number : ℕ) (new : State) (p : Past) (messa
     boots = λ n. at_itself (or_zero (fin.get w.boots n));
   }
 
-  pub life_holds : StillLaws → LifeMove → AllSay (view world after) messages → LogsHold w b → LogsHold world after
+  pub life_holds : StillLaws → LifeMove → AllSay (view world after) messages → LogsHold w b → StepKeeps w b world after
   life_holds law move says h = record {
-    stores = stores_hold law move h.stores;
-    lives = record {
-      lock = h.lives.lock;
-      boots = h.lives.boots;
-      lives = lives_hold move h.lives;
-      none = none_hold h.lives;
-      masters = masters_hold move h.lives;
-      ends = ends_hold move h;
-      past = move.past;
-      closed = λ v. ap (λ (ws : FinSet writer_cmp). sets.contains ws v) move.closed ∙ h.lives.closed v;
+    goes = life_goes law move;
+    holds = record {
+      stores = stores_hold law move h.stores;
+      lives = record {
+        lock = h.lives.lock;
+        boots = h.lives.boots;
+        lives = lives_hold move h.lives;
+        none = none_hold h.lives;
+        masters = masters_hold move h.lives;
+        ends = ends_hold move h;
+        past = move.past;
+        closed = λ v. ap (λ (ws : FinSet writer_cmp). sets.contains ws v) move.closed ∙ h.lives.closed v;
+      };
+      sent = both (Says (view world after)) w.sent messages
+          (each (Says (view w b)) (Says (view world after)) (λ m. sayings_stay law.of_moves.tells (view w b) (view world after) m (life_goes law move)) w.sent h.sent) says;
     };
-    sent = both (Says (view world after)) w.sent messages
-        (each (Says (view w b)) (Says (view world after)) (λ m. sayings_stay law.of_moves.tells (view w b) (view world after) m (life_goes law move)) w.sent h.sent) says;
   }

@@ -27,11 +27,12 @@ use Rattle.store_model.specs.LogState.{log_of}
 use Rattle.world_model.specs.Past.{group_of, logged}
 use Rattle.world_model.specs.World.{World, Past, or_zero}
 use Rattle.world_laws.specs.Beside.{Beside, durable_by, log_by, logged_by, up_to}
-use Rattle.world_laws.specs.Invariant.{LogsHold}
+use Rattle.world_laws.specs.Invariant.{LogsHold, StepKeeps}
 use Rattle.world_laws.specs.Kept.{end_of, locks_kept, log_kept}
-use Rattle.world_laws.specs.Lives.{JoinedAs, JoinedFact, LifeFact, MasterFact, RecoveryFact, StageFact}
+use Rattle.world_laws.specs.Lives.{JoinedAs, JoinedFact, LifeFact, MasterFact, RecoveryFact, RosterKept, RosterTold, StageFact}
 use Rattle.world_laws.specs.Messages.{View, view}
-use Rattle.world_laws.proofs.MasterMoves.{LifeMove, StillLaws, after, at_life, at_log, durable_stands, each_number, life_holds, world}
+use Rattle.world_laws.proofs.LockMoves.{StillLaws}
+use Rattle.world_laws.proofs.MasterMoves.{LifeMove, after, at_life, at_log, durable_stands, each_number, life_holds, world}
 use Rattle.world_laws.proofs.MasterTold.{Heard, Speaks, life_says}
 use Rattle.world_laws.proofs.PastLemmas.{hard_after, number_here, number_there}
 use Rattle.world_laws.proofs.StoreLemmas.{set_other}
@@ -87,6 +88,7 @@ pub record Stepped (w : World) (old new : Life) (messages : List Message) : Type
   pub marks : (seq store : ℕ) → is_marked new.work.log.groups seq store ≡ true → (is_marked old.work.log.groups seq store ≡ true) ⊎ (seq ≤ length (log_of (log_kept w store) (writer_of new.work)).groups)
   pub recovery : RecoveryFact (log_kept w) (end_of w) old.recovery → RecoveryFact (log_kept w) (end_of w) new.recovery
   pub epochs : (page : ℕ) → ((lease_of new.work.leases page).epoch ≡ (lease_of old.work.leases page).epoch) ⊎ ((lease_of new.work.leases page).epoch ≤ (page_in (locks_kept w) page).epoch)
+  pub roster : (new.roster ≡ old.roster) ⊎ RosterTold (locks_kept w) new.roster
   pub sends : MessagesAre new.work messages
   pub stages : StagesSaid new messages
 
@@ -131,8 +133,13 @@ module _ (w : World) (b : Beside) (number : ℕ) (s new : State) (p : Past) (mes
         log_kept = log_grows old l (log_by b writer) step.goes f.log_kept;
         epochs = λ page. by page (step.epochs page) (f.epochs page);
         recovery = step.recovery f.recovery;
+        roster = by_roster step.roster f.roster;
       }
     where
+      by_roster : (l.roster ≡ old.roster) ⊎ RosterTold (locks_kept w) l.roster → RosterKept (locks_kept w) old.roster → RosterKept (locks_kept w) l.roster
+      by_roster (inl same) kept = subst (RosterKept (locks_kept w)) (sym same) kept
+      by_roster (inr came) kept = inr came
+
       by : (page : ℕ) → ((lease_of l.work.leases page).epoch ≡ (lease_of old.work.leases page).epoch) ⊎ ((lease_of l.work.leases page).epoch ≤ (page_in (locks_kept w) page).epoch)
           → (lease_of old.work.leases page).epoch ≤ (page_in (locks_kept w) page).epoch → (lease_of l.work.leases page).epoch ≤ (page_in (locks_kept w) page).epoch
       by page (inl same) low = subst (λ (k : ℕ). k ≤ (page_in (locks_kept w) page).epoch) (sym same) low
@@ -190,7 +197,7 @@ module _ (w : World) (b : Beside) (number : ℕ) (s new : State) (p : Past) (mes
       }
 
   pub goes_on : StillLaws → Stepped w old l messages → Keeps w b number s new p old l → LogsHold w b
-      → LogsHold (world w b number new p messages l more) (after w b number new p messages l more)
+      → StepKeeps w b (world w b number new p messages l more) (after w b number new p messages l more)
   goes_on law step keeps h =
       life_holds w b number new p messages l more law (move step keeps h)
       (life_says (view (world w b number new p messages l more) (after w b number new p messages l more)) (end_of w) l messages (speaks step keeps h) step.sends step.stages) h

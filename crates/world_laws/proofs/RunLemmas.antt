@@ -1,5 +1,5 @@
 -- Every step and every run keeps the invariant; and what follows.
-use Rattle.std.proofs.Common.{◌≡◌, ◌-◌, ◌+◌, ℕ, zero, suc, List, [], ◌∷◌, length, slice_get, Option, Some, None, refl, sym, subst, false}
+use Rattle.std.proofs.Common.{◌∙◌, ap, ◌≡◌, ◌-◌, ◌+◌, ℕ, zero, suc, List, [], ◌∷◌, ◌++◌, length, slice_get, Option, Some, None, refl, sym, subst, false}
 use Rattle.std.specs.List.{AllByRecursion}
 use Rattle.std.specs.FinMap as fin
 use Rattle.tm_base.specs.declared.message.Message.{Message}
@@ -10,14 +10,20 @@ use Rattle.tm_base.specs.declared.message.Note.TheVariants as note
 use Rattle.tm_base.specs.declared.message.RosterEntry.{RosterEntry}
 use Rattle.tm_base.specs.declared.message.WriterState.{WriterState}
 use Rattle.tm_base.specs.declared.message.WriterState.TheVariants as told
-use Rattle.tm_base.specs.declared.step.Step.{Step}
 use Rattle.tm_base.specs.declared.step.Step.TheVariants as step
 use Rattle.lock_model.specs.declared.writer.WriterEntry.{WriterEntry}
 use Rattle.lock_model.specs.declared.writer.WriterStatus.{WriterStatus}
 use Rattle.lock_model.specs.declared.writer.WriterStatus.TheVariants.{Live, Closed, Recovered}
 use Rattle.lock_model.specs.Runs as lock_runs
 use Rattle.lock_model.specs.Runs.{LogEnd, end_of as end_in, ended_at, told_of}
+use Rattle.lock_model.specs.Goes as lock_goes
+use Rattle.lock_model.specs.State as locks
 use Rattle.lock_model.specs.State.{at}
+use Rattle.store_model.specs.LogGoes as store_goes
+use Rattle.store_model.specs.LogState.{LogStoreState}
+use Rattle.tm_data.specs.declared.log.Group.{Group}
+use Rattle.store_model.specs.LogGoes.{IsFront}
+use Rattle.std.proofs.lemmas.List.{append_assoc}
 use Rattle.lock_model.specs.Told as lock_told
 use Rattle.lock_model.specs.Told.{RosterFact, StateFact}
 use Rattle.store_model.specs.LogState.{log_of}
@@ -27,11 +33,12 @@ use Rattle.world_model.specs.World.{World}
 use Rattle.world_model.specs.Nodes.{delivers_some, delivers_to}
 use Rattle.world_model.specs.Step.{begin, run, world_step}
 use Rattle.world_laws.specs.Beside.{Beside, after_step, after_steps, durable_by, log_by, nothing, receiver, with_moved}
-use Rattle.world_laws.specs.Invariant.{ApartDeliveryHolds, ApartStepHolds, BeginHolds, CommandHolds, LockDeliveryHolds, LockStepHolds, LogsHold, MasterDeliveryHolds, MasterTickHolds, StoreDeliveryHolds, StoreStepHolds}
+use Rattle.world_laws.specs.Invariant.{ApartDeliveryHolds, ApartStepHolds, BeginHolds, CommandHolds, LockDeliveryHolds, LockStepHolds, LogsHold, MasterDeliveryHolds, MasterTickHolds, StepKeeps, StoreDeliveryHolds, StoreStepHolds}
 use Rattle.world_laws.specs.Kept.{hard, locks_kept, log_kept}
-use Rattle.world_laws.specs.Messages.{MasterSays, Says, SaysFrom, view}
-use Rattle.world_laws.specs.Runs.{AllTell, Always, BringAll, BringsSome, DurableIsHeld, ListsAreFronts, StepHolds, Tells, WritersDiffer}
+use Rattle.world_laws.specs.Messages.{MasterSays, Says, SaysFrom, View, ViewGoes, view}
+use Rattle.world_laws.specs.Runs.{AllTell, Always, BringsSome, DurableIsHeld, EndsKeepDurable, ListsAreFronts, ListsStay, NeverFalls, RunKeeps, StepHolds, Tells, WritersDiffer}
 use Rattle.world_laws.proofs.ApartLemmas.{nothing_holds}
+use Rattle.world_laws.proofs.LockMoves.{StillLaws, at_most, view_still}
 use Rattle.world_laws.proofs.MarkLemmas.{reached_marked}
 use Rattle.world_laws.proofs.MasterMoves.{within}
 use Rattle.world_laws.proofs.MessageLemmas.{front_numbered}
@@ -40,6 +47,7 @@ use Rattle.world_laws.proofs.MessageLemmas.{front_numbered}
 
 -- What each kind of step keeps, as the laws say.
 pub record StepLaws : Type 0 where
+  pub still : StillLaws
   pub apart_delivery : ApartDeliveryHolds
   pub apart_step : ApartStepHolds
   pub lock_delivery : LockDeliveryHolds
@@ -56,7 +64,7 @@ sent_before P (y ∷ ys) zero x h is = let one : y ≡ x = cc is in subst P one 
 sent_before P (y ∷ ys) (suc i) x h is = sent_before P ys i x h.1 is
 
 delivered_to : StepLaws → (w : World) (b : Beside) (m : Message) → Says (view w b) m → BringsSome (Some m) → LogsHold w b → (to : Node) → m.to ≡ to
-    → LogsHold (delivers_to w m to).world (with_moved b w (delivers_to w m to).world (receiver (Some (record m { to = to }))))
+    → StepKeeps w b (delivers_to w m to).world (with_moved b w (delivers_to w m to).world (receiver (Some (record m { to = to }))))
 delivered_to law w b m says brings h (Master number) is = law.master_delivery w b number m is says (brings number is) h
 delivered_to law w b m says brings h (LogStore number) is = law.store_delivery w b number m is says h
 delivered_to law w b m says brings h (PageStore number) is = law.apart_delivery w b m (PageStore number) tt h
@@ -64,8 +72,8 @@ delivered_to law w b m says brings h LockManager is = law.lock_delivery w b m sa
 delivered_to law w b m says brings h (Replica number) is = law.apart_delivery w b m (Replica number) tt h
 
 delivered : StepLaws → (w : World) (b : Beside) (number : ℕ) → (o : Option Message) → slice_get w.sent (number - 1) ≡ o → BringsSome o → LogsHold w b
-    → LogsHold (delivers_some w o).world (with_moved b w (delivers_some w o).world (receiver o))
-delivered law w b number None is brings h = nothing_holds w b h
+    → StepKeeps w b (delivers_some w o).world (with_moved b w (delivers_some w o).world (receiver o))
+delivered law w b number None is brings h = nothing_holds law.still w b h
 delivered law w b number (Some m) is brings h = delivered_to law w b m (sent_before (Says (view w b)) w.sent (number - 1) m h.sent is) brings h m.to refl
 
 pub step_holds : StepLaws → StepHolds
@@ -101,12 +109,38 @@ step_holds law w b (step.Scan number point table from count) brings h = law.apar
 
 -- ---- every run
 
-run_holds : StepHolds → (w : World) (b : Beside) (ss : List Step) → BringAll w ss → LogsHold w b → LogsHold (run w ss) (after_steps b w ss)
-run_holds law w b [] brings h = h
-run_holds law w b (s ∷ ss) brings h = run_holds law (world_step w s).world (after_step b w s) ss brings.1 (law w b s brings.0 h)
+pub record TwiceLaws : Type 0 where
+  pub still : StillLaws
+  pub stores : (x y z : LogStoreState) → store_goes.Goes x y → store_goes.Goes y z → store_goes.Goes x z
+  pub of_locks : (x y z : locks.State) → lock_goes.Goes x y → lock_goes.Goes y z → lock_goes.Goes x z
 
-pub always : StepHolds → BeginHolds → Always LogsHold
-always law began masters page_stores replicas ss brings = run_holds law (begin masters page_stores replicas) nothing ss brings (began masters page_stores replicas)
+front_twice : (xs ys zs : List Group) → IsFront xs ys → IsFront ys zs → IsFront xs zs
+front_twice xs ys zs f g = (f.0 ++ g.0, g.1 ∙ (ap (λ (l : List Group). l ++ g.0) f.1 ∙ append_assoc xs f.0 g.0))
+
+view_twice : TwiceLaws → (x y z : View) → ViewGoes x y → ViewGoes y z → ViewGoes x z
+view_twice law x y z f g = record {
+  stores = λ number. law.stores (x.stores number) (y.stores number) (z.stores number) (f.stores number) (g.stores number);
+  of_locks = law.of_locks x.of_locks y.of_locks z.of_locks f.of_locks g.of_locks;
+  logs = λ writer. front_twice (x.logs writer) (y.logs writer) (z.logs writer) (f.logs writer) (g.logs writer);
+  most = λ writer. at_most (x.most writer) (y.most writer) (z.most writer) (f.most writer) (g.most writer);
+  boots = λ number. at_most (x.boots number) (y.boots number) (z.boots number) (f.boots number) (g.boots number);
+}
+
+pub run_keeps : TwiceLaws → StepHolds → RunKeeps
+run_keeps law each w b [] brings h = record { holds = h; goes = view_still law.still w b }
+run_keeps law each w b (s ∷ ss) brings h =
+    let one = each w b s brings.0 h in
+    let rest = run_keeps law each (world_step w s).world (after_step b w s) ss brings.1 one.holds in
+    record { holds = rest.holds; goes = view_twice law (view w b) (view (world_step w s).world (after_step b w s)) (view (run (world_step w s).world ss) (after_steps (after_step b w s) (world_step w s).world ss)) one.goes rest.goes }
+
+pub always : RunKeeps → BeginHolds → Always LogsHold
+always law began masters page_stores replicas ss brings = (law (begin masters page_stores replicas) nothing ss brings (began masters page_stores replicas)).holds
+
+pub lists_stay : RunKeeps → ListsStay
+lists_stay law w b steps store writer brings h = ((law w b steps brings h).goes.stores store).logs writer
+
+pub never_falls : RunKeeps → NeverFalls
+never_falls law w b steps writer brings h = (law w b steps brings h).goes.most writer
 
 pub so_always : (P : World → Beside → Type 0) → ((w : World) (b : Beside) → LogsHold w b → P w b) → Always LogsHold → Always P
 so_always P so h masters page_stores replicas ss brings =
@@ -125,6 +159,9 @@ pub held : (w : World) (b : Beside) → LogsHold w b → DurableIsHeld w b
 held w b h store writer of =
     within (length (log_of (log_kept w store) writer).groups) (durable_by (fin.get b.lives writer))
     (λ one. (h.stores store).disk.acks writer (durable_by (fin.get b.lives writer)) (reached_marked (fin.get b.lives writer) store of one))
+
+pub ends_keep : (w : World) (b : Beside) → LogsHold w b → EndsKeepDurable w b
+ends_keep w b h writer end is = ((h.lives.ends writer end is).least, (h.stores end.store).disk.ended writer end is refl)
 
 pub differ : ((inputs : List Message) (v u : ℕ) (e f : WriterEntry) → lock_runs.WritersDiffer inputs v u e f) → (w : World) (b : Beside) → WritersDiffer w b
 differ law w b v u e f is_e is_f master boot = law w.lock_disk.records v u e f is_e is_f master boot

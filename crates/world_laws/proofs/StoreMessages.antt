@@ -170,6 +170,7 @@ lives_stay w b stores disks sent goes h = record {
         facts = f.facts;
         log_kept = f.log_kept;
         epochs = f.epochs;
+        roster = f.roster;
         recovery = recovery_goes (log_kept w) (log_kept (record w { log = stores; log_disk = disks; sent = sent })) goes (end_of w) l.recovery f.recovery;
       };
   none = h.none;
@@ -244,4 +245,4 @@ pub store_delivery_holds : SentLaws → StoreDeliveryHolds
 store_delivery_holds law w b number m to says h =
     let brings : BringsOf (log_by b) (hard w b) m.note = sayings_bring w b m says in
     let leads = takes law w b number m brings h.stores (fin.get w.log number) refl in
-    record { stores = store_delivery_keeps law.of_store w b number m brings h.stores; lives = leads.lives h.lives; sent = leads.says (seals (view w b) number m m.from to says) h.sent }
+    record { holds = record { stores = store_delivery_keeps law.of_store w b number m brings h.stores; lives = leads.lives h.lives; sent = leads.says (seals (view w b) number m m.from to says) h.sent }; goes = leads.goes }

@@ -17,7 +17,7 @@ use Rattle.world_model.specs.World.{World, Effect, log_disk_of, or_blank}
 use Rattle.world_model.specs.Nodes.{log_ticks, message_size}
 use Rattle.world_model.specs.Step.{if_up, log_opens, runs, starts}
 use Rattle.world_laws.specs.Beside.{Beside, acked_by, log_by}
-use Rattle.world_laws.specs.Invariant.{LogsHold, StoreStepHolds}
+use Rattle.world_laws.specs.Invariant.{LogsHold, StepKeeps, StoreStepHolds}
 use Rattle.world_laws.specs.Kept.{end_of, hard, log_kept}
 use Rattle.world_laws.specs.LogStores.{DiskFacts, LogStoreFacts, RunsBy, RunsFrom, StoresHold}
 use Rattle.world_laws.specs.Messages.{AllSay, Says, SealFrom, ViewGoes, view}
@@ -32,14 +32,14 @@ holds_with : SentLaws → (w : World) (b : Beside) (stores : FinMap nat_cmp LogS
     → ((n : ℕ) → Goes (log_kept w n) (log_kept (with_stores w stores disks messages) n))
     → StoresHold (with_stores w stores disks messages) b
     → AllSay (view (with_stores w stores disks messages) b) messages
-    → LogsHold w b → LogsHold (with_stores w stores disks messages) b
+    → LogsHold w b → StepKeeps w b (with_stores w stores disks messages) b
 holds_with law w b stores disks messages goes hold says h =
     let t = with_stores w stores disks messages in
     let on : ViewGoes (view w b) (view t b) = disks_go law w b t refl refl goes in
-    record { stores = hold; lives = lives_stay w b stores disks t.sent goes h.lives; sent = both (Says (view t b)) w.sent messages (all_stay law (view w b) (view t b) on w.sent h.sent) says }
+    record { holds = record { stores = hold; lives = lives_stay w b stores disks t.sent goes h.lives; sent = both (Says (view t b)) w.sent messages (all_stay law (view w b) (view t b) on w.sent h.sent) says }; goes = on }
 
 -- Nothing changes.
-still : SentLaws → (w : World) (b : Beside) → LogsHold w b → LogsHold (with_stores w w.log w.log_disk []) b
+still : SentLaws → (w : World) (b : Beside) → LogsHold w b → StepKeeps w b (with_stores w w.log w.log_disk []) b
 still law w b h = holds_with law w b w.log w.log_disk [] (λ n. law.of_store.still (log_kept w n)) h.stores tt h
 
 -- ---- a disk with the same records
@@ -50,7 +50,7 @@ same_goes law w number d same =
     one_disk law.of_store w.log_disk number d
     (subst (λ (ms : List Message). Goes (log_kept w number) (reopened (start number) ms)) (sym same) (law.of_store.still (log_kept w number)))
 
-disk_set : SentLaws → (w : World) (b : Beside) (number : ℕ) (d : Disk Message) → d.records ≡ (log_disk_of w number).records → LogsHold w b → LogsHold (with_stores w w.log (fin.insert w.log_disk number d) []) b
+disk_set : SentLaws → (w : World) (b : Beside) (number : ℕ) (d : Disk Message) → d.records ≡ (log_disk_of w number).records → LogsHold w b → StepKeeps w b (with_stores w w.log (fin.insert w.log_disk number d) []) b
 disk_set law w b number d same h =
     holds_with law w b w.log (fin.insert w.log_disk number d) [] (same_goes law w number d same)
     (each_at (log_by b) (hard w b) (acked_by b) (end_of w) number w.log_disk (fin.insert w.log_disk number d) w.log w.log (set_other w.log_disk number d) (λ other apart. refl) h.stores
@@ -74,10 +74,10 @@ opened_same d = by (nat_le d.size 1)
     by true = made_same d (failing 5 d.armed)
     by false = read_same d (failing (5 + reads d.size) d.armed)
 
-pub opens : SentLaws → (w : World) (b : Beside) (number : ℕ) (k : Worked Message) → k.disk.records ≡ (log_disk_of w number).records → LogsHold w b → LogsHold (log_opens w number k).world b
+pub opens : SentLaws → (w : World) (b : Beside) (number : ℕ) (k : Worked Message) → k.disk.records ≡ (log_disk_of w number).records → LogsHold w b → StepKeeps w b (log_opens w number k).world b
 opens law w b number k same h = by k.done
   where
-    by : (c : Bool) → LogsHold (log_opens w number (record { disk = k.disk; done = c })).world b
+    by : (c : Bool) → StepKeeps w b (log_opens w number (record { disk = k.disk; done = c })).world b
     by false = disk_set law w b number k.disk same h
     by true =
         let new = reopened (start number) k.disk.records in
@@ -93,7 +93,7 @@ opens law w b number k same h = by k.done
 
 -- ---- a stop
 
-stops : SentLaws → (w : World) (b : Beside) (number : ℕ) → LogsHold w b → LogsHold (with_stores w (fin.remove w.log number) w.log_disk []) b
+stops : SentLaws → (w : World) (b : Beside) (number : ℕ) → LogsHold w b → StepKeeps w b (with_stores w (fin.remove w.log number) w.log_disk []) b
 stops law w b number h =
     holds_with law w b (fin.remove w.log number) w.log_disk [] (λ n. law.of_store.still (log_kept w n))
     (each_at (log_by b) (hard w b) (acked_by b) (end_of w) number w.log_disk w.log_disk w.log (fin.remove w.log number) (λ other apart. refl) (gone_other w.log number) h.stores
@@ -103,7 +103,7 @@ stops law w b number h =
 -- ---- a tick
 
 ticks : SentLaws → ((s : LogStoreState) (most : ℕ → ℕ) → AllByRecursion (store_told.MessageFact (ticked s).0 most) (ticked s).1)
-    → (w : World) (b : Beside) (number : ℕ) → LogsHold w b → (o : Option LogStoreState) → fin.get w.log number ≡ o → LogsHold (log_ticks w number o).world b
+    → (w : World) (b : Beside) (number : ℕ) → LogsHold w b → (o : Option LogStoreState) → fin.get w.log number ≡ o → StepKeeps w b (log_ticks w number o).world b
 ticks law told w b number h None is = still law w b h
 ticks law told w b number h (Some s) is =
     let here : RunsBy (log_by b) (hard w b) (log_kept w number) (Some s) = subst (RunsBy (log_by b) (hard w b) (log_kept w number)) is (h.stores number).runs in
@@ -116,7 +116,7 @@ ticks law told w b number h (Some s) is =
 
 -- ---- each of them
 
-up : SentLaws → (w : World) (b : Beside) (number : ℕ) (c : Bool) (e : Effect) → LogsHold w b → LogsHold e.world b → LogsHold (if_up w (LogStore number) c e).world b
+up : SentLaws → (w : World) (b : Beside) (number : ℕ) (c : Bool) (e : Effect) → LogsHold w b → StepKeeps w b e.world b → StepKeeps w b (if_up w (LogStore number) c e).world b
 up law w b number true e h k = k
 up law w b number false e h k = still law w b h
 
@@ -125,7 +125,7 @@ store_step_holds law told w b number (step.Tick (LogStore n)) of h = ticks law t
 store_step_holds law told w b number (step.Stop (LogStore n) mode) of h = up law w b n (runs w (LogStore n)) _ h (stops law w b n h)
 store_step_holds law told w b number (step.Start (LogStore n)) of h = by (runs w (LogStore n))
   where
-    by : (c : Bool) → LogsHold (starts w (LogStore n) c).world b
+    by : (c : Bool) → StepKeeps w b (starts w (LogStore n) c).world b
     by true = still law w b h
     by false = opens law w b n (opened message_size (log_disk_of w n)) (opened_same (log_disk_of w n)) h
 store_step_holds law told w b number (step.Fail (LogStore n) call mode) of h = up law w b n (runs w (LogStore n)) _ h (disk_set law w b n (arm (log_disk_of w n) call mode) refl h)

@@ -14,12 +14,18 @@ use Rattle.master_model.specs.Facts.{Brings}
 use Rattle.world_laws.specs.Beside.{Beside, nothing, with_moved}
 use Rattle.world_laws.specs.LogStores.{StoresHold}
 use Rattle.world_laws.specs.Lives.{LivesHold}
-use Rattle.world_laws.specs.Messages.{AllSay, Says, view}
+use Rattle.world_laws.specs.Messages.{AllSay, Says, ViewGoes, view}
 
 pub record LogsHold (w : World) (b : Beside) : Type 0 where
   pub stores : StoresHold w b
   pub lives : LivesHold w b
   pub sent : AllSay (view w b) w.sent
+
+-- What a step leads to, with what is kept beside the world then: all of it holds, and the world has gone on as old messages
+-- want it.
+pub record StepKeeps (w : World) (b : Beside) (t : World) (c : Beside) : Type 0 where
+  pub holds : LogsHold t c
+  pub goes : ViewGoes (view w b) (view t c)
 
 -- A message that says what is so, delivered to a log store, keeps all of it: no life, boot number or writer changes by it.
 abbrev pub StoreDeliveryHolds : Type 0
@@ -28,7 +34,7 @@ StoreDeliveryHolds =
     → m.to ≡ LogStore number
     → Says (view w b) m
     → LogsHold w b
-    → LogsHold (delivers_to w m (LogStore number)).world b
+    → StepKeeps w b (delivers_to w m (LogStore number)).world b
 
 -- What else may become of a log store: it ticks, it stops, it starts again from its disk, and its disk is to fail.
 abbrev pub IsOfStore : ℕ → Step → Type 0
@@ -40,14 +46,14 @@ IsOfStore number other = ⊥
 
 -- Each keeps all of it.
 abbrev pub StoreStepHolds : Type 0
-StoreStepHolds = (w : World) (b : Beside) (number : ℕ) (s : Step) → IsOfStore number s → LogsHold w b → LogsHold (world_step w s).world b
+StoreStepHolds = (w : World) (b : Beside) (number : ℕ) (s : Step) → IsOfStore number s → LogsHold w b → StepKeeps w b (world_step w s).world b
 
 -- ---- the lock manager
 
 -- A message that says what is so, delivered to the lock manager, keeps all of it: a close gives a log its end, where a log
 -- store is sealed, and at least what the writer's master knew to be durable.
 abbrev pub LockDeliveryHolds : Type 0
-LockDeliveryHolds = (w : World) (b : Beside) (m : Message) → Says (view w b) m → LogsHold w b → LogsHold (delivers_to w m LockManager).world b
+LockDeliveryHolds = (w : World) (b : Beside) (m : Message) → Says (view w b) m → LogsHold w b → StepKeeps w b (delivers_to w m LockManager).world b
 
 abbrev pub IsOfLocks : Step → Type 0
 IsOfLocks (step.Tick LockManager) = Unit {0}
@@ -57,7 +63,7 @@ IsOfLocks (step.Fail LockManager call mode) = Unit {0}
 IsOfLocks other = ⊥
 
 abbrev pub LockStepHolds : Type 0
-LockStepHolds = (w : World) (b : Beside) (s : Step) → IsOfLocks s → LogsHold w b → LogsHold (world_step w s).world b
+LockStepHolds = (w : World) (b : Beside) (s : Step) → IsOfLocks s → LogsHold w b → StepKeeps w b (world_step w s).world b
 
 -- ---- page stores, replicas, and masters that start or stop
 
@@ -85,10 +91,10 @@ IsApart other = Unit {0}
 -- They keep all of it: what a page store or a replica sends says nothing here, and a master that starts registers the boot
 -- number that was given out to it.
 abbrev pub ApartDeliveryHolds : Type 0
-ApartDeliveryHolds = (w : World) (b : Beside) (m : Message) (node : Node) → IsApartNode node → LogsHold w b → LogsHold (delivers_to w m node).world b
+ApartDeliveryHolds = (w : World) (b : Beside) (m : Message) (node : Node) → IsApartNode node → LogsHold w b → StepKeeps w b (delivers_to w m node).world b
 
 abbrev pub ApartStepHolds : Type 0
-ApartStepHolds = (w : World) (b : Beside) (s : Step) → IsApart s → LogsHold w b → LogsHold (world_step w s).world b
+ApartStepHolds = (w : World) (b : Beside) (s : Step) → IsApart s → LogsHold w b → StepKeeps w b (world_step w s).world b
 
 -- ---- masters
 
@@ -101,16 +107,16 @@ MasterDeliveryHolds =
     → Says (view w b) m
     → Brings m
     → LogsHold w b
-    → LogsHold (delivers_to w m (Master number)).world (with_moved b w (delivers_to w m (Master number)).world (Some number))
+    → StepKeeps w b (delivers_to w m (Master number)).world (with_moved b w (delivers_to w m (Master number)).world (Some number))
 
 abbrev pub CommandHolds : Type 0
 CommandHolds =
     (w : World) (b : Beside) (number session : ℕ) (asked : Command)
     → LogsHold w b
-    → LogsHold (commands w number session asked).world (with_moved b w (commands w number session asked).world (Some number))
+    → StepKeeps w b (commands w number session asked).world (with_moved b w (commands w number session asked).world (Some number))
 
 abbrev pub MasterTickHolds : Type 0
-MasterTickHolds = (w : World) (b : Beside) (number : ℕ) → LogsHold w b → LogsHold (world_step w (step.Tick (Master number))).world b
+MasterTickHolds = (w : World) (b : Beside) (number : ℕ) → LogsHold w b → StepKeeps w b (world_step w (step.Tick (Master number))).world b
 
 -- ---- the beginning
 

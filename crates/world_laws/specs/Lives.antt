@@ -1,5 +1,5 @@
 -- What holds of the masters, of every life that joined, and of the lock manager that numbers them.
-use Rattle.std.specs.Prelude.{◌≡◌, ◌≤◌, ℕ, List, [], length, is_some}
+use Rattle.std.specs.Prelude.{◌≡◌, ◌≤◌, ◌⊎◌, ℕ, List, [], length, is_some}
 use Rattle.std.specs.FinMap as fin
 use Rattle.std.specs.FinSet as sets
 use Rattle.std.specs.declared.option.Option.{Option}
@@ -8,6 +8,9 @@ use Rattle.tm_data.specs.declared.log.Group.{Group}
 use Rattle.tm_data.specs.declared.transaction.Writer.{Writer}
 use Rattle.lock_model.specs.declared.writer.WriterEntry.{WriterEntry}
 use Rattle.tm_base.specs.declared.message.Message.{Message}
+use Rattle.tm_base.specs.declared.message.Note.TheVariants as note
+use Rattle.tm_base.specs.declared.message.RosterEntry.{RosterEntry}
+use Rattle.lock_model.specs.Told.{MessageFact}
 use Rattle.tm_base.specs.declared.message.Node.TheVariants.{LockManager}
 use Rattle.world_model.specs.Nodes.{delivers_to}
 use Rattle.lock_model.specs.State as locks
@@ -57,6 +60,15 @@ RecoveryFact stores ends (Some r) = StageFact stores (ends r.writer) r.writer r.
 abbrev pub KeepsOf : Life → List Group → Type 0
 KeepsOf l groups = groups_of l.work.log ≡ groups
 
+-- The roster that a life keeps is one that the lock manager has told, or it has none.
+pub record RosterTold (of_locks : locks.State) (entries : List RosterEntry) : Type 0 where
+  pub message : Message
+  pub says : message.note ≡ note.Roster entries
+  pub fact : MessageFact of_locks message
+
+abbrev pub RosterKept : locks.State → List RosterEntry → Type 0
+RosterKept of_locks entries = (entries ≡ []) ⊎ RosterTold of_locks entries
+
 -- A life that joined as a writer: the lock manager knows the writer, which is this master's, and the life has the facts of
 -- one that began at the writer's start. This is said of its last state, whether its master runs or not.
 pub record LifeFact (of_locks : locks.State) (stores : ℕ → LogStoreState) (ends : ℕ → Option LogEnd) (log : List Group) (writer : ℕ) (l : Life) : Type 0 where
@@ -69,6 +81,7 @@ pub record LifeFact (of_locks : locks.State) (stores : ℕ → LogStoreState) (e
   -- it has had no lease of a page that the lock manager hasn't given
   pub epochs : (page : ℕ) → (lease_of l.work.leases page).epoch ≤ (page_in of_locks page).epoch
   pub recovery : RecoveryFact stores ends l.recovery
+  pub roster : RosterKept of_locks l.roster
 
 -- The life of a master that runs is the last state of its writer, which the lock manager numbered for this boot.
 pub record JoinedFact (writers : List (ℕ × WriterEntry)) (b : Beside) (s : State) (l : Life) : Type 0 where

@@ -17,13 +17,13 @@ use Rattle.lock_model.specs.Runs.{LogEnd, told_of}
 use Rattle.lock_model.specs.State.{at}
 use Rattle.master_model.specs.Facts.{Brings}
 use Rattle.store_model.specs.LogFacts.{IsSealedWith}
-use Rattle.store_model.specs.LogGoes.{IsFront}
+use Rattle.store_model.specs.LogGoes.{IsFront, LogGoes}
 use Rattle.store_model.specs.LogState.{log_of, numbered}
 use Rattle.store_model.specs.PageState.{is_live}
 use Rattle.world_model.specs.World.{World}
 use Rattle.world_model.specs.Step.{begin, run, world_step}
 use Rattle.world_laws.specs.Beside.{Beside, after_step, after_steps, durable_by, log_by, nothing}
-use Rattle.world_laws.specs.Invariant.{LogsHold}
+use Rattle.world_laws.specs.Invariant.{LogsHold, StepKeeps}
 use Rattle.world_laws.specs.Kept.{IsOneOfThree, end_of, hard, locks_kept, log_kept}
 
 -- ---- what is asked of a run
@@ -45,7 +45,11 @@ BringAll w (s ∷ ss) = BringsIn w s × BringAll (world_step w s).world ss
 -- ---- every step, and every run
 
 abbrev pub StepHolds : Type 0
-StepHolds = (w : World) (b : Beside) (s : Step) → BringsIn w s → LogsHold w b → LogsHold (world_step w s).world (after_step b w s)
+StepHolds = (w : World) (b : Beside) (s : Step) → BringsIn w s → LogsHold w b → StepKeeps w b (world_step w s).world (after_step b w s)
+
+-- And several: from any world in which all of it holds.
+abbrev pub RunKeeps : Type 0
+RunKeeps = (w : World) (b : Beside) (steps : List Step) → BringAll w steps → LogsHold w b → StepKeeps w b (run w steps) (after_steps b w steps)
 
 -- A statement of a world and of what is kept beside it is so after every list of steps, in a world of so many nodes.
 abbrev pub Always : (World → Beside → Type 0) → Type 0
@@ -59,6 +63,25 @@ Always P =
 -- A log store's list of a writer is a front of all groups that the writer ever logged.
 abbrev pub ListsAreFronts : World → Beside → Type 0
 ListsAreFronts w b = (store writer : ℕ) → IsFront (log_of (log_kept w store) writer).groups (log_by b writer)
+
+-- A sealed list stays as it is, whatever comes; and a list that isn't loses no group.
+abbrev pub ListsStay : Type 0
+ListsStay =
+    (w : World) (b : Beside) (steps : List Step) (store writer : ℕ)
+    → BringAll w steps
+    → LogsHold w b
+    → LogGoes (log_of (log_kept w store) writer) (log_of (log_kept (run w steps) store) writer)
+
+-- What stands of a writer's groups never falls, at a close neither.
+abbrev pub NeverFalls : Type 0
+NeverFalls = (w : World) (b : Beside) (steps : List Step) (writer : ℕ) → BringAll w steps → LogsHold w b → hard w b writer ≤ hard (run w steps) (after_steps b w steps) writer
+
+-- Where a log ends it has all that its master knew to be durable, and the log store of the close is sealed there.
+abbrev pub EndsKeepDurable : World → Beside → Type 0
+EndsKeepDurable w b =
+    (writer : ℕ) (end : LogEnd)
+    → end_of w writer ≡ Some end
+    → (durable_by (fin.get b.lives writer) ≤ end.length) × IsSealedWith (log_of (log_kept w end.store) writer) end.length
 
 -- What a writer's master knew to be durable, each of the three log stores holds.
 abbrev pub DurableIsHeld : World → Beside → Type 0

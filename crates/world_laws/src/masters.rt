@@ -25,6 +25,7 @@ pub fn a_delivery_to_a_master_keeps_it()
     laws::epochs_come_with_pages();
     laws::recoveries_move_by_what_comes();
     laws::a_recovery_says_where_it_is();
+    laws::the_roster_is_one_that_came();
     log_laws::facts_of_messages_stay();
     log_laws::going_stands_still();
     log_laws::longer_logs_have_it();
@@ -48,6 +49,7 @@ pub fn a_command_keeps_it()
     laws::epochs_come_with_pages();
     laws::recoveries_move_by_what_comes();
     laws::a_recovery_says_where_it_is();
+    laws::the_roster_is_one_that_came();
     log_laws::facts_of_messages_stay();
     log_laws::going_stands_still();
     log_laws::longer_logs_have_it();
@@ -71,6 +73,7 @@ pub fn a_tick_of_a_master_keeps_it()
     laws::epochs_come_with_pages();
     laws::recoveries_move_by_what_comes();
     laws::a_recovery_says_where_it_is();
+    laws::the_roster_is_one_that_came();
     log_laws::facts_of_messages_stay();
     log_laws::going_stands_still();
     log_laws::longer_logs_have_it();

@@ -4,10 +4,11 @@
 //! commands, ticks, stops, starts and failing disks. What comes to a master is taken to be what the format of messages can
 //! spell (`BringAll`).
 ghost use Rattle.world_laws.specs.Invariant.{LogsHold};
-ghost use Rattle.world_laws.specs.Runs.{AllTell, Always, DurableIsHeld, ListsAreFronts, StepHolds, WritersDiffer};
+ghost use Rattle.world_laws.specs.Runs.{AllTell, Always, DurableIsHeld, EndsKeepDurable, ListsAreFronts, ListsStay, NeverFalls, RunKeeps, StepHolds, WritersDiffer};
 
 use crate::{apart, begin, locks, masters, stores};
 use lock_model::laws;
+use store_model::log_laws;
 
 /// Every step keeps the whole invariant, with what is kept beside the world after it.
 pub fn a_step_keeps_it()
@@ -22,14 +23,58 @@ pub fn a_step_keeps_it()
     masters::a_delivery_to_a_master_keeps_it();
     masters::a_command_keeps_it();
     masters::a_tick_of_a_master_keeps_it();
+    log_laws::facts_of_messages_stay();
+    log_laws::going_stands_still();
+    log_laws::longer_logs_have_it();
+    laws::facts_of_messages_stay();
+    laws::going_stands_still();
 }
 
-/// So it holds after every list of steps.
+/// So does every list of steps, from any world in which it holds; and the world goes on as old messages want it.
+pub fn a_run_keeps_it()
+    ensures { RunKeeps }
+{
+    a_step_keeps_it();
+    log_laws::facts_of_messages_stay();
+    log_laws::going_stands_still();
+    log_laws::going_is_transitive();
+    log_laws::longer_logs_have_it();
+    laws::facts_of_messages_stay();
+    laws::going_stands_still();
+    laws::going_is_transitive();
+}
+
+/// So it holds after every list of steps from the beginning.
 pub fn it_always_holds()
     ensures { Always LogsHold }
 {
-    a_step_keeps_it();
+    a_run_keeps_it();
     begin::it_holds_at_the_beginning();
+}
+
+/// A sealed list of a log store never grows nor changes, and no list loses a group, over stops, starts and failing disks.
+/// Refused is a log store that forgets a seal when it starts again.
+pub fn lists_stay()
+    ensures { ListsStay }
+{
+    a_run_keeps_it();
+}
+
+/// How many of a writer's groups stand for ever never falls: the durable ones, and once the log has an end those up to it.
+/// Refused is a close at less than what the writer's master knew to be durable.
+pub fn what_stands_never_falls()
+    ensures { NeverFalls }
+{
+    a_run_keeps_it();
+}
+
+/// No close loses what was durable: a log that has an end has all that its master knew to be durable, and the log store
+/// that the close names is sealed there. Refused is a master that asks for a close before the log is sealed, and a log store
+/// that takes groups once it has named its length.
+pub fn a_close_keeps_what_is_durable()
+    ensures { Always EndsKeepDurable }
+{
+    it_always_holds();
 }
 
 /// A log store's list of a writer is always a front of that writer's log. Refused is a log store that keeps another group

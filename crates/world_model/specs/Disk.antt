@@ -3,7 +3,7 @@
 -- The file is a list of records and an end gate of one byte. A record is a gate, its length in four bytes, and its body.
 -- An append writes length, body and a new end gate behind the present one, syncs, opens the old gate, and syncs; so a
 -- record is there as soon as its gate is open, and what lies behind the end gate counts for nothing.
-use Rattle.std.specs.Prelude.{ℕ, ◌+◌, ◌-◌, ◌/◌, Bool, true, false, cond, ◌&&◌, ◌||◌, nat_eq, nat_le, nat_lt, List, [], ◌∷◌, ◌++◌, sum_by}
+use Rattle.std.specs.Prelude.{ℕ, ◌+◌, ◌-◌, ◌/◌, Bool, true, false, cond, ◌&&◌, ◌||◌, nat_eq, nat_le, List, [], ◌∷◌, ◌++◌, sum_by}
 use Rattle.std.specs.declared.option.Option.{Option}
 use Rattle.std.specs.declared.option.Option.TheVariants.{None, Some}
 

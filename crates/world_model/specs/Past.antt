@@ -1,7 +1,6 @@
 -- What a step adds to what is kept of the run.
-use Rattle.std.specs.Prelude.{ℕ, ◌+◌, Bool, true, false, cond, not, ◌&&◌, is_some, nat_eq, nat_le, nat_lt, List, [], ◌∷◌, ◌++◌, drop, filter_map, length, map}
-use Rattle.std.specs.List.{filter}
-use Rattle.std.specs.Ordering.{nat_cmp, ordering_then}
+use Rattle.std.specs.Prelude.{ℕ, Bool, true, false, cond, not, ◌&&◌, is_some, nat_eq, nat_le, nat_lt, List, [], ◌∷◌, ◌++◌, drop, filter_map, length, map}
+use Rattle.std.specs.Ordering.{ordering_then}
 use Rattle.std.specs.FinMap as fin
 use Rattle.std.specs.FinSet as sets
 use Rattle.std.specs.declared.cmp.Ordering.{Ordering}
@@ -22,7 +21,7 @@ use Rattle.tm_base.specs.declared.reply.Reply.{Reply}
 use Rattle.tm_base.specs.declared.reply.Reply.TheVariants as reply
 use Rattle.key_model.specs.declared.events.Event.{Event}
 use Rattle.key_model.specs.declared.events.EventKind.{EventKind}
-use Rattle.key_model.specs.declared.events.EventKind.TheVariants.{Read, Put, End}
+use Rattle.key_model.specs.declared.events.EventKind.TheVariants.{Put, End}
 use Rattle.key_model.specs.declared.events.Ended.{Ended}
 use Rattle.key_model.specs.declared.events.PutKey.{PutKey}
 use Rattle.key_model.specs.declared.step.MachineStep.{MachineStep}
@@ -30,7 +29,7 @@ use Rattle.key_model.specs.declared.step.MachineStep.TheVariants.{Answered, Sett
 use Rattle.key_model.specs.After.{stepped}
 use Rattle.key_model.specs.Events.{after_close, is_by}
 use Rattle.key_model.specs.Steps.{row_of}
-use Rattle.history_model.specs.History.{event, events_of, read_by}
+use Rattle.history_model.specs.History.{events_of, read_by}
 use Rattle.log_writer.specs.declared.logged.Logged.{Logged}
 use Rattle.lock_model.specs.declared.writer.WriterEntry.{WriterEntry}
 use Rattle.lock_model.specs.declared.writer.WriterStatus.{WriterStatus}
@@ -40,7 +39,7 @@ use Rattle.master_model.specs.declared.session.Own.{Own}
 use Rattle.master_model.specs.Acks.{ends_between}
 use Rattle.master_model.specs.State as master
 use Rattle.master_model.specs.State.{durable, writer_of}
-use Rattle.world_model.specs.World.{Past, PageAnswer, or_zero}
+use Rattle.world_model.specs.World.{Past}
 
 -- ---- the machine
 

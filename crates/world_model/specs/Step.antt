@@ -1,5 +1,5 @@
 -- The steps of the world, and what a list of them leads to.
-use Rattle.std.specs.Prelude.{ℕ, zero, suc, ◌+◌, ◌-◌, Bool, true, false, cond, nat_le, List, [], ◌∷◌, ◌++◌, length, map, Result, Ok, Err}
+use Rattle.std.specs.Prelude.{ℕ, zero, suc, ◌+◌, Bool, true, false, cond, nat_le, List, [], ◌∷◌, ◌++◌, length, map, Result, Ok, Err}
 use Rattle.std.specs.FinMap as fin
 use Rattle.std.specs.declared.option.Option.{Option}
 use Rattle.std.specs.declared.option.Option.TheVariants.{None, Some}
@@ -16,7 +16,7 @@ use Rattle.tm_base.specs.declared.step.Pair.{Pair}
 use Rattle.tm_base.specs.declared.step.Step.{Step}
 use Rattle.tm_base.specs.declared.step.Step.TheVariants as step
 use Rattle.lock_model.specs.State as locks
-use Rattle.lock_model.specs.Step as lock_step
+use Rattle.lock_model.specs.Runs.{after}
 use Rattle.master_model.specs.State as master
 use Rattle.master_model.specs.Step as master_step
 use Rattle.replica_model.specs.Order.{waits}
@@ -59,14 +59,10 @@ master_starts w number =
     shows (record w { boots = fin.insert w.boots number boot; master = fin.insert w.master number new }) outcome.Fine messages
 
 -- The lock manager and a log store take the messages of their journals again, in order, and send nothing.
-abbrev pub lock_after : locks.State → List Message → locks.State
-lock_after s [] = s
-lock_after s (m ∷ ms) = lock_after (lock_step.step s m).0 ms
-
 abbrev pub lock_opens : World → Worked Message → Effect
 lock_opens w kept =
     cond kept.done
-    (shows (record w { lock_disk = kept.disk; lock = Some (lock_after locks.start kept.disk.records) }) outcome.Fine [])
+    (shows (record w { lock_disk = kept.disk; lock = Some (after locks.start kept.disk.records) }) outcome.Fine [])
     (shows (record w { lock_disk = kept.disk }) (outcome.Stopped LockManager) [])
 
 -- A log store doesn't hear their stamps.

@@ -38,8 +38,7 @@ returns c =
         tells = c.tells_change.ensures;
       };
       of_apart = record {
-        of_moves = moves;
-        lock_still = c.going_stands_still-2.ensures;
+        still = record { of_moves = moves; lock_still = c.going_stands_still-2.ensures };
         page_step_sent = c.four_kinds_are_sent.ensures.step;
         page_tick_sent = c.four_kinds_are_sent.ensures.tick;
         page_wants_sent = c.four_kinds_are_sent.ensures.refused;

@@ -20,6 +20,7 @@ returns c = command_holds (record {
     epochs = c.epochs_come_with_pages.ensures.message;
     recoveries = c.recoveries_move_by_what_comes.ensures.message;
     stages = c.a_recovery_says_where_it_is.ensures.message;
+    rosters = c.the_roster_is_one_that_came.ensures.message;
   };
   command = record {
     facts = c.a_command_keeps_the_facts.ensures;
@@ -30,6 +31,7 @@ returns c = command_holds (record {
     epochs = c.epochs_come_with_pages.ensures.command;
     recoveries = c.recoveries_move_by_what_comes.ensures.command;
     stages = c.a_recovery_says_where_it_is.ensures.command;
+    rosters = c.the_roster_is_one_that_came.ensures.command;
   };
   tick_sends = c.a_tick_sends_what_is.ensures.tick;
   tick_stages = c.a_recovery_says_where_it_is.ensures.tick;
