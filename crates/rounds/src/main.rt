@@ -15,6 +15,7 @@ mod log;
 mod pages;
 mod sample;
 mod shelf;
+mod tags;
 mod tree;
 mod work;
 
