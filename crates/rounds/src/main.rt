@@ -13,8 +13,8 @@ mod history;
 mod locks;
 mod log;
 mod pages;
-mod sample;
 mod shelf;
+mod tags;
 mod tree;
 mod work;
 

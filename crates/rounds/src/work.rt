@@ -9,8 +9,9 @@ use crate::history::{maps, rows};
 use crate::locks::{ask, release, request};
 use crate::log::{acknowledge, append, fetch};
 use crate::pages::{add, read};
-use crate::sample::{Sample, bytes};
+use crate::tags;
 use crate::tree::{Order, look, put};
+use round_samples::{Sample, bytes};
 use std::alloc::Global;
 use tm_base::Message;
 
@@ -37,6 +38,14 @@ pub enum Work {
     Seek(u32),
     /// A page of so many that are leased is recalled, given back and granted again.
     Turn(u32),
+    /// A transaction with ten tags ends, of so many tags, and its tags are added again.
+    EndOf(u32),
+    /// A key of a page with so many tags is asked for a conflict.
+    Conflict(u32),
+    /// A tag is added to a page that has so many with it, and taken out.
+    AddTag(u32),
+    /// The one tag of another writer is found on a page with so many.
+    Foreign(u32),
     /// A record of a page is added, after so many.
     AddRecord(u32),
     /// The newest version of a page is read, which so many records make.
@@ -72,6 +81,10 @@ impl Work {
             "ask" => Some(Work::Ask(number(what)?)),
             "seek" => Some(Work::Seek(number(what)?)),
             "turn" => Some(Work::Turn(number(what)?)),
+            "end-of" => Some(Work::EndOf(number(what)?)),
+            "conflict" => Some(Work::Conflict(number(what)?)),
+            "add-tag" => Some(Work::AddTag(number(what)?)),
+            "foreign" => Some(Work::Foreign(number(what)?)),
             "add-record" => Some(Work::AddRecord(number(what)?)),
             "read-page" => Some(Work::ReadPage(number(what)?)),
             "put-rising" => Some(Work::Put(Order::Rising, number(what)?)),
@@ -168,6 +181,10 @@ pub fn done(alloc: Global, work: Work, rounds: u32) -> Result<u64, Failure> {
         Work::Ask(pages) => Ok(ask(alloc, pages, rounds)? as u64),
         Work::Seek(leases) => Ok(seek(alloc, leases, rounds)? as u64),
         Work::Turn(leases) => Ok(turn(alloc, leases, rounds)? as u64),
+        Work::EndOf(count) => Ok(tags::end(alloc, count, rounds)? as u64),
+        Work::Conflict(count) => Ok(tags::ask(alloc, count, rounds)? as u64),
+        Work::AddTag(count) => Ok(tags::add(alloc, count, rounds)? as u64),
+        Work::Foreign(count) => Ok(tags::seek_foreign(alloc, count, rounds)? as u64),
         Work::AddRecord(length) => add(alloc, length, rounds),
         Work::ReadPage(length) => read(alloc, length, rounds),
         Work::Put(order, rows) => Ok(put(alloc, order, rows, rounds)? as u64),
