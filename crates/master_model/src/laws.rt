@@ -297,7 +297,7 @@ pub fn recalled_pages_go_once_they_may()
 /// that is awaited is asked for by one Request where it has no lease here, by one ReadPage where it is held, and not
 /// otherwise; a fresh page by one RequestFresh; a log store that is awaited hasn't acknowledged that group; and the
 /// other refusals hold of the session, table, key, value, leaf or transaction number that they name. It doesn't speak of
-/// the causes of Full height, Full groups and StampsSpent. Refused is a command that locks by a transaction
+/// the causes of Full groups and StampsSpent. Refused is a command that locks by a transaction
 /// which has ended, one that asks for a fate that was told, and one that awaits a log store which has the group.
 pub fn answers_have_their_causes()
     ensures { (s : State) (session : ℕ) (asked : Command) → IsInSession asked → BecauseIn session s.life (on_command s session asked).0.life (on_command s session asked).2 (on_command s session asked).1 }
