@@ -35,7 +35,7 @@ use Rattle.master_model.specs.Writes as writes
 use Rattle.master_model.specs.Writes.{Put, put_logged}
 use Rattle.master_model.specs.Ends as ends
 use Rattle.master_model.specs.Ends.{Awaited, awaited, free}
-use Rattle.master_model.specs.Refusals.{Because, IsLocking, IsUnknown}
+use Rattle.master_model.specs.Refusals.{Because, PlanIs, IsLocking, IsUnknown}
 use Rattle.master_model.proofs.AwaitedLemmas.{none_awaited}
 use Rattle.master_model.proofs.Moves.{HasRoom, begun_in}
 
@@ -65,7 +65,7 @@ pub record Answered (session : ℕ) (P : Work → Answer → Type 0) : Type 0 wh
   pub said : (w : Work) (r : Reply) → IsPlain r → Because session w w [] r → P w (says w r)
   pub own_value : (w : Work) (value : Option (List ℕ)) → P w (says w (reply.Value value))
   pub wanted : (w : Work) (page : Page) → P w (wants w page)
-  pub fresh : (w : Work) (wanting : ℕ) → w.spent ≡ false → P w (answers w (reply.AgainFresh wanting) (to_locks w (note.RequestFresh w.log.writer (w.fresh + 1)) ∷ []))
+  pub fresh : (w : Work) (wanting : ℕ) → w.spent ≡ false → PlanIs w (Wanting wanting) → P w (answers w (reply.AgainFresh wanting) (to_locks w (note.RequestFresh w.log.writer (w.fresh + 1)) ∷ []))
   pub asked : (w : Work) (t : Txn) → fates.standing w t ≡ Unknown → P w (answers w (reply.AgainFate t) (to_locks w (note.Ask t w.number) ∷ []))
   -- something changes
   pub name : (w : Work) (t : Txn) (r : Reply) → IsPlain r → Because session w (named w t) [] r → P w (says (named w t) r)
@@ -248,19 +248,19 @@ module _ {session : ℕ} {P : Work → Answer → Type 0} (c : Answered session 
       by (Some page) = c.wanted w page
       by None = room_says w (length groups) (put_logged p leaf path fresh (logs w groups)) (c.put w p leaf path fresh groups)
 
-  put_says_planned : (w : Work) (p : Put) (path : List Page) (leaf : Image) (r : Result (List (List Record)) Refusal) → P w (writes.put_by p w path leaf r)
-  put_says_planned w p path leaf (Err TooHigh) = c.said w reply.FullHeight tt tt
-  put_says_planned w p path leaf (Err (Wanting wanting)) = by w.spent refl
+  put_says_planned : (w : Work) (p : Put) (path : List Page) (leaf : Image) (r : Result (List (List Record)) Refusal) → plan_of (here w) path p.row w.stock (w.clock.scalar + 1) ≡ r → P w (writes.put_by p w path leaf r)
+  put_says_planned w p path leaf (Err TooHigh) is = c.said w reply.FullHeight tt (record { path = path; row_put = p.row; made = is }, refl)
+  put_says_planned w p path leaf (Err (Wanting wanting)) is = by w.spent refl
     where
       by : (b : Bool) → w.spent ≡ b → P w (writes.wants_fresh w wanting b)
-      by true spent = c.said w reply.PagesSpent tt (spent, refl)
-      by false spent = c.fresh w wanting spent
-  put_says_planned w p path leaf (Ok groups) = put_says_logged w p path leaf (take (writes.fresh_needed w path p.row) w.stock) groups
+      by true spent = c.said w reply.PagesSpent tt ((wanting, record { path = path; row_put = p.row; made = is }), spent, refl)
+      by false spent = c.fresh w wanting spent (record { path = path; row_put = p.row; made = is })
+  put_says_planned w p path leaf (Ok groups) is = put_says_logged w p path leaf (take (writes.fresh_needed w path p.row) w.stock) groups
 
   put_says_free : (w : Work) (p : Put) (path : List Page) (leaf : Image) → P w (writes.put_free p w path leaf)
   put_says_free w p path leaf =
       unless_says w (writes.blocked_if_full w leaf.page.0 (is_full p.row leaf.body)) _ (by (is_full p.row leaf.body))
-      (put_says_planned w p path leaf (plan_of (here w) path p.row w.stock (w.clock.scalar + 1)))
+      (put_says_planned w p path leaf (plan_of (here w) path p.row w.stock (w.clock.scalar + 1)) refl)
     where
       by : (b : Bool) → IfSays P w (writes.blocked_if_full w leaf.page.0 b)
       by false = tt

@@ -1,6 +1,6 @@
 -- Why a session's command is answered so.
-use Rattle.std.proofs.Common.{◌≡◌, ◌≤◌, ◌-◌, ◌⊎◌, inl, inr, ℕ, Bool, true, false, List, [], ◌∷◌, ◌++◌, Option, Some, None, Result, Ok, Err, refl, ap, sym, subst, cond, arith}
-use Rattle.std.specs.Prelude.{nat_eq, ◌||◌, length}
+use Rattle.std.proofs.Common.{◌∙◌, ◌+◌, ◌≡◌, ◌≤◌, ◌-◌, ◌⊎◌, inl, inr, ℕ, Bool, true, false, List, [], ◌∷◌, ◌++◌, Option, Some, None, Result, Ok, Err, refl, ap, sym, subst, cond, arith}
+use Rattle.std.specs.Prelude.{nat_eq, ◌||◌, length, reverse}
 use Rattle.std.specs.FinSet as sets
 use Rattle.std.proofs.lemmas.Bool.Decides.{nat_tests}
 use Rattle.tm_data.specs.declared.image.Image.{Image}
@@ -15,7 +15,7 @@ use Rattle.tm_base.specs.declared.message.Message.{Message}
 use Rattle.tm_base.specs.declared.message.RosterEntry.{RosterEntry}
 use Rattle.tm_base.specs.declared.reply.Reply.{Reply}
 use Rattle.tm_base.specs.declared.reply.Reply.TheVariants as reply
-use Rattle.page_model.specs.Splits.{images_on}
+use Rattle.page_model.specs.Splits.{Refusal, TooHigh, Wanting, images_on, full_pages, page_above, plan_with}
 use Rattle.page_model.specs.Tree.{path_of}
 use Rattle.master_model.specs.declared.recovery.Stage.{Stage}
 use Rattle.master_model.specs.declared.recovery.Stage.TheVariants.{Seal, Close, Scan, Take, Undo, Told, Over}
@@ -29,7 +29,8 @@ use Rattle.master_model.specs.Reads.{txn_numbered}
 use Rattle.master_model.specs.Acks.{appends}
 use Rattle.master_model.specs.Step as does
 use Rattle.master_model.specs.Step.{on_command}
-use Rattle.master_model.specs.Refusals.{Because, BecauseIf, BecauseIn, IsInSession, IsKnownRecovered, IsLocking, IsOfSession, RecoverIsSaid, RecoverSaid}
+use Rattle.master_model.specs.Refusals.{Because, PlanIs, BecauseIf, BecauseIn, IsInSession, IsKnownRecovered, IsLocking, IsOfSession, RecoverIsSaid, RecoverSaid}
+use Rattle.master_model.proofs.DoneLemmas.{here_along, images_same}
 use Rattle.master_model.proofs.Answers.{Answered, awaited_lacks, end_reply, unknown_of, begin_says, get_says, put_says, commit_says, abort_says}
 
 -- The cause of an answer, with all that is sent.
@@ -43,6 +44,13 @@ of_used session w path t h = record { own = h.own; in_session = h.in_session; na
 locking_used : (w : Work) (path : List Page) (t : Txn) → IsLocking (uses w path) t → IsLocking w t
 locking_used w path t h = record { binds = h.binds; is_open = h.is_open }
 
+plan_used : (w : Work) (path : List Page) (refused : Refusal) → PlanIs (uses w path) refused → PlanIs w refused
+plan_used w path refused h = record {
+  path = h.path;
+  row_put = h.row_put;
+  made = ap (λ (images : List Image). plan_with h.row_put w.stock (w.clock.scalar + 1) (page_above h.row_put (reverse images)) (reverse (full_pages h.row_put (reverse images)))) (sym (images_same (here (uses w path)) (here w) h.path (here_along w path))) ∙ h.made;
+}
+
 used_because : (session : ℕ) (w after : Work) (path : List Page) (sent : List Message) (r : Reply) → Because session (uses w path) after sent r → Because session w after sent r
 used_because session w after path sent reply.NoTransaction h = h
 used_because session w after path sent (reply.AlreadyOpen t) h = (of_used session w path t h.0, h.1)
@@ -52,12 +60,13 @@ used_because session w after path sent (reply.TooLongKey given) h = h
 used_because session w after path sent (reply.TooLongValue given) h = h
 used_because session w after path sent reply.FullTags h = h
 used_because session w after path sent reply.FullTransactions h = h
-used_because session w after path sent reply.PagesSpent h = h
+used_because session w after path sent reply.FullHeight h = (plan_used w path TooHigh h.0, h.1)
+used_because session w after path sent reply.PagesSpent h = ((h.0.0, plan_used w path (Wanting h.0.0) h.0.1), h.1, h.2)
 used_because session w after path sent (reply.LockedRow t key) h = (locking_used w path t h.0, h.1)
 used_because session w after path sent (reply.LockedSplit t key) h = (locking_used w path t h.0, h.1)
 used_because session w after path sent (reply.AgainFate t) h = (record { foreign = h.0.foreign; binds = h.0.binds; untold = h.0.untold }, h.1)
 used_because session w after path sent (reply.AgainPage page) h = h
-used_because session w after path sent (reply.AgainFresh wanting) h = h
+used_because session w after path sent (reply.AgainFresh wanting) h = (plan_used w path (Wanting wanting) h.0, h.1, h.2)
 used_because session w after path sent (reply.AgainStore store seq) h = h
 used_because session w after path sent (reply.AgainRows left) h = h
 used_because session w after path sent reply.NotJoined h = h
@@ -78,7 +87,7 @@ reasons session = record {
   said = λ w r plain why. why;
   own_value = λ w value. tt;
   wanted = λ w page. refl;
-  fresh = λ w wanting spent. (spent, refl);
+  fresh = λ w wanting spent plan. (plan, spent, refl);
   asked = λ w t is. (unknown_of w t is, refl);
   name = λ w t r plain why. why;
   begin = λ w in_session. tt;

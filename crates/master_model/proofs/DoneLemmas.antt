@@ -160,14 +160,14 @@ image_along : (path : List Page) (q : ℕ) (images : List Image) → image_of q 
 image_along [] q images = refl
 image_along (p ∷ ps) q images = image_along ps q (used p.0 images) ∙ image_used p.0 q images
 
-here_along : (w : Work) (path : List Page) (q : ℕ) → here (uses w path) q ≡ here w q
+pub here_along : (w : Work) (path : List Page) (q : ℕ) → here (uses w path) q ≡ here w q
 here_along w path q = by (is_held (lease_of w.leases q).state)
   where
     by : (b : Bool) → image_if (uses w path) q b ≡ image_if w q b
     by true = image_along path q w.pool.images
     by false = refl
 
-images_same : (f g : Images) (path : List Page) → ((q : ℕ) → f q ≡ g q) → images_on f path ≡ images_on g path
+pub images_same : (f g : Images) (path : List Page) → ((q : ℕ) → f q ≡ g q) → images_on f path ≡ images_on g path
 images_same f g [] same = refl
 images_same f g (p ∷ ps) same = ap (λ (o : Option Image). with_image o (images_on f ps)) (same p.0) ∙ ap (λ (is : List Image). with_image (g p.0) is) (images_same f g ps same)
 

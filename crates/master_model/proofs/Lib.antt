@@ -34,3 +34,4 @@ mod SaidLemmas
 mod DoneLemmas
 mod RestLemmas
 mod BecauseLemmas
+mod HeardLemmas

@@ -156,7 +156,7 @@ ask_others w t master false = tt
 -- ---- a message
 
 -- What a message makes of a life.
-record Moves (from : Node) (n : Note) (l : Life) (e : LifeEffect) : Type 0 where
+pub record Moves (from : Node) (n : Note) (l : Life) (e : LifeEffect) : Type 0 where
   pub roster : (e.0.roster ≡ l.roster) ⊎ (n ≡ note.Roster e.0.roster)
   pub stages : RecoveryBy from n l.recovery e.0.recovery
   pub said : StagesSaid e.0 e.1
@@ -347,7 +347,7 @@ roster_on l from entries = kept (record l { roster = entries; recovery = does.ov
     by None = none (entry_of entries 0)
     by (Some r) = listed r (entry_of entries r.writer) refl
 
-note_on : (l : Life) (from : Node) (stamp : ℕ) (n : Note) → Moves from n l (does.on_note l from stamp n)
+pub note_on : (l : Life) (from : Node) (stamp : ℕ) (n : Note) → Moves from n l (does.on_note l from stamp n)
 note_on l from stamp (note.Ack writer seq) = own_on _ _ l writer _ (ack_others l.work from seq)
 note_on l from stamp (note.Sealed writer most) = by (nat_eq writer.0 (writer_of l.work))
   where
@@ -374,7 +374,7 @@ note_on l from stamp other = still _ _ l
 
 -- ---- a command
 
-record AskedMoves (asked : Command) (l : Life) (a : LifeAnswer) : Type 0 where
+pub record AskedMoves (asked : Command) (l : Life) (a : LifeAnswer) : Type 0 where
   pub roster : a.life.roster ≡ l.roster
   pub stages : RecoveryAsked asked a.life l.recovery a.life.recovery
   pub said : StagesSaid a.life a.messages
@@ -393,7 +393,7 @@ other_answers session = record {
   used = λ w path a h. h;
   said = λ w r plain why. tt;
   wanted = λ w page. asked_others w page (lease_of w.leases page.0).state;
-  fresh = λ w wanting spent. (tt, tt);
+  fresh = λ w wanting spent plan. (tt, tt);
   asked = λ w t is. (tt, tt);
   own_value = λ w value. tt;
   name = λ w t r plain why. tt;
@@ -501,7 +501,7 @@ recover_moves l writer = by (nat_eq writer.0 (writer_of l.work)) (entry_of l.ros
 of_work : (asked : Command) (l : Life) (a : Answer) → AreOthers a.messages → AskedMoves asked l (does.from_work l a)
 of_work asked l a others = record { roster = refl; stages = asked_same asked l (record l { work = a.work }) refl; said = others_said _ a.messages others }
 
-asked_on : (l : Life) (session : ℕ) (asked : Command) → AskedMoves asked l (does.commanded l session asked)
+pub asked_on : (l : Life) (session : ℕ) (asked : Command) → AskedMoves asked l (does.commanded l session asked)
 asked_on l session command.Begin = of_work _ l _ (begin_says (other_answers session) l.work)
 asked_on l session (command.Get table key) = of_work _ l _ (get_says (other_answers session) l.work table key)
 asked_on l session (command.Put table key value) = of_work _ l _ (put_says (other_answers session) l.work table key (Some value))

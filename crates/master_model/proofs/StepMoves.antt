@@ -53,7 +53,7 @@ use Rattle.master_model.proofs.Moves.{AnyCause, Cause, Acked, Granted, Fresh, Gi
 single_most : (writer stamp w most : ℕ) → stamp ≤ most → stamp_of (single writer stamp) w ≤ most
 single_most writer stamp w most h = grind (arith, nat_tests)
 
-group_brought : (g : Group) → GroupBrought g → Brought (joined g.learnt (single g.writer.0 g.stamp.0))
+pub group_brought : (g : Group) → GroupBrought g → Brought (joined g.learnt (single g.writer.0 g.stamp.0))
 group_brought g b =
     let one = single_is_vector g.writer.0 g.stamp.0 b.writer in
     let whole = joined_ascends 0 g.learnt (single g.writer.0 g.stamp.0) b.learnt.0 one in (
@@ -67,7 +67,7 @@ turn_if : (g : Group) (taken left : List Group) (b : Bool) → GroupBrought g �
 turn_if g taken left true one h k = (one, h)
 turn_if g taken left false one h k = k
 
-turn_brought : (writer next most : ℕ) (gs : List Group) → AllByRecursion GroupBrought gs → AllByRecursion GroupBrought (in_turn writer next most gs)
+pub turn_brought : (writer next most : ℕ) (gs : List Group) → AllByRecursion GroupBrought gs → AllByRecursion GroupBrought (in_turn writer next most gs)
 turn_brought writer next most [] h = tt
 turn_brought writer next most (g ∷ gs) h =
     turn_if g (in_turn writer (next + 1) most gs) (in_turn writer next most gs) (is_next writer next most g) h.0 (turn_brought writer (next + 1) most gs h.1) (turn_brought writer next most gs h.1)
@@ -263,7 +263,7 @@ module _ {G : Work → Cause → Type 0} {R : Work → Work → Type 0} (c : Clo
 
   -- ---- recovery
 
-  groups_heard : (w : Work) (gs : List Group) → AllByRecursion GroupBrought gs → R w (hears_groups w gs)
+  pub groups_heard : (w : Work) (gs : List Group) → AllByRecursion GroupBrought gs → R w (hears_groups w gs)
   groups_heard w [] h = c.none w
   groups_heard w (g ∷ gs) h =
       c.both w (hears_group w g) (hears_groups (hears_group w g) gs) (c.hears_vector w (joined g.learnt (single g.writer.0 g.stamp.0)) (group_brought g h.0)) (groups_heard (hears_group w g) gs h.1)

@@ -91,7 +91,7 @@ told_answers session = record {
   used = λ w path a h. h;
   said = λ w r plain why. record { logged = tt; told = tt };
   wanted = λ w page. record { logged = tt; told = wants_told w page (lease_of w.leases page.0).state refl };
-  fresh = λ w wanting spent. record { logged = tt; told = (record { sender = refl; stamp = refl; says = (refl, refl, refl) }, tt) };
+  fresh = λ w wanting spent plan. record { logged = tt; told = (record { sender = refl; stamp = refl; says = (refl, refl, refl) }, tt) };
   asked = λ w t is. record { logged = tt; told = (record { sender = refl; stamp = refl; says = (refl, refl, foreign_asked (is_own w t) (fates.is_ended w t) (sets.contains w.told_open t) is) }, tt) };
   own_value = λ w value. record { logged = tt; told = tt };
   name = λ w t r plain why. record { logged = tt; told = tt };

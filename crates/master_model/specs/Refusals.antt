@@ -1,9 +1,11 @@
 -- Why a session's command is answered so, and what it sends then.
-use Rattle.std.specs.Prelude.{◌≡◌, ◌⊎◌, ◌≤◌, ◌<◌, ℕ, ◌+◌, ◌-◌, ◌^◌, Bool, true, false, nat_eq, List, [], ◌∷◌, length}
+use Rattle.std.specs.Prelude.{◌≡◌, ◌⊎◌, ◌≤◌, ◌<◌, ℕ, ◌+◌, ◌-◌, ◌^◌, Bool, true, false, nat_eq, List, [], ◌∷◌, length, Err}
 use Rattle.std.specs.FinMap as fin
 use Rattle.std.specs.FinSet as sets
 use Rattle.std.specs.declared.option.Option.{Option}
 use Rattle.std.specs.declared.option.Option.TheVariants.{None, Some}
+use Rattle.tm_data.specs.declared.row.Row.{Row}
+use Rattle.tm_data.specs.declared.transaction.Page.{Page}
 use Rattle.tm_data.specs.declared.transaction.Txn.{Txn}
 use Rattle.tm_data.specs.declared.transaction.Writer.{Writer}
 use Rattle.tm_base.specs.declared.command.Command.{Command}
@@ -16,6 +18,7 @@ use Rattle.tm_base.specs.declared.reply.RecoveryWait.TheVariants as wait
 use Rattle.tm_base.specs.declared.reply.Reply.{Reply}
 use Rattle.tm_base.specs.declared.reply.Reply.TheVariants as reply
 use Rattle.log_writer.specs.Log.{lacking}
+use Rattle.page_model.specs.Splits.{Refusal, TooHigh, Wanting, plan_of}
 use Rattle.lease_desk.specs.Desk.{lease_of}
 use Rattle.master_model.specs.declared.recovery.Stage.TheVariants.{Seal, Close, Scan, Take, Undo, Told, Over}
 use Rattle.master_model.specs.declared.session.Own.{Own}
@@ -23,7 +26,7 @@ use Rattle.master_model.specs.declared.session.Progress.TheVariants.{Active}
 use Rattle.master_model.specs.Tags.{tags_on}
 use Rattle.master_model.specs.State.{Work, Life, Recovery, to_locks, writer_of}
 use Rattle.master_model.specs.Fates.{is_ended, is_own}
-use Rattle.master_model.specs.Paths.{asks_for}
+use Rattle.master_model.specs.Paths.{asks_for, here}
 use Rattle.master_model.specs.Reads.{txn_numbered}
 use Rattle.master_model.specs.Recovery.{entry_of, is_recovered, writer_named}
 use Rattle.master_model.specs.Stages.{IsAt}
@@ -51,6 +54,12 @@ pub record IsUnknown (w : Work) (t : Txn) : Type 0 where
   pub binds : is_ended w t ≡ false
   pub untold : sets.contains w.told_open t ≡ false
 
+-- The plan of a put along a path is refused.
+pub record PlanIs (w : Work) (refused : Refusal) : Type 0 where
+  pub path : List Page
+  pub row_put : Row
+  pub made : plan_of (here w) path row_put w.stock (w.clock.scalar + 1) ≡ Err refused
+
 -- By the answer: its cause in the state before the command or, where a group is awaited, after it; and what is sent.
 abbrev pub Because : ℕ → Work → Work → List Message → Reply → Type 0
 Because session w after sent reply.NoTransaction = (fin.get w.sessions session ≡ None) × (sent ≡ [])
@@ -61,12 +70,14 @@ Because session w after sent (reply.TooLongKey given) = (64 < given) × (sent �
 Because session w after sent (reply.TooLongValue given) = (512 < given) × (sent ≡ [])
 Because session w after sent reply.FullTags = ((page : ℕ) × (4096 ≤ length (tags_on w.tags page))) × (sent ≡ [])
 Because session w after sent reply.FullTransactions = (2 ^ 32 - 1 ≤ w.begun + 1) × (sent ≡ [])
-Because session w after sent reply.PagesSpent = (w.spent ≡ true) × (sent ≡ [])
+Because session w after sent reply.FullHeight = PlanIs w TooHigh × (sent ≡ [])
+Because session w after sent reply.PagesSpent = ((wanting : ℕ) × PlanIs w (Wanting wanting)) × (w.spent ≡ true) × (sent ≡ [])
 Because session w after sent (reply.LockedRow t key) = IsLocking w t × (sent ≡ [])
 Because session w after sent (reply.LockedSplit t key) = IsLocking w t × (sent ≡ [])
 Because session w after sent (reply.AgainFate t) = IsUnknown w t × (sent ≡ to_locks w (note.Ask t w.number) ∷ [])
 Because session w after sent (reply.AgainPage page) = sent ≡ asks_for w page (lease_of w.leases page.0).state
-Because session w after sent (reply.AgainFresh wanting) = (w.spent ≡ false) × (sent ≡ to_locks w (note.RequestFresh w.log.writer (w.fresh + 1)) ∷ [])
+Because session w after sent (reply.AgainFresh wanting) =
+    PlanIs w (Wanting wanting) × (w.spent ≡ false) × (sent ≡ to_locks w (note.RequestFresh w.log.writer (w.fresh + 1)) ∷ [])
 Because session w after sent (reply.AgainStore store seq) = lacking after.log.groups seq ≡ Some store
 Because session w after sent (reply.AgainRows left) = 1 ≤ left
 Because session w after sent reply.NotJoined = ⊥

@@ -1,10 +1,12 @@
 -- How a recovery moves from stage to stage, by what comes, and what is sent at each stage.
-use Rattle.std.specs.Prelude.{◌≡◌, ◌⊎◌, ◌≤◌, ◌<◌, ℕ, ◌+◌, ◌-◌, Bool, true, List, ◌++◌, length}
+use Rattle.std.specs.Prelude.{◌≡◌, ◌⊎◌, ◌≤◌, ◌<◌, ℕ, ◌+◌, ◌-◌, Bool, true, false, nat_eq, List, ◌++◌, length}
 use Rattle.std.specs.List.{AllByRecursion}
 use Rattle.std.specs.declared.option.Option.{Option}
 use Rattle.std.specs.declared.option.Option.TheVariants.{None, Some}
 use Rattle.tm_data.specs.declared.log.Group.{Group}
 use Rattle.tm_data.specs.declared.vector.VectorEntry.{VectorEntry}
+use Rattle.tm_data.specs.Vectors.{stamp_of}
+use Rattle.vs_clock.specs.State as clock
 use Rattle.tm_base.specs.declared.command.Command.{Command}
 use Rattle.tm_base.specs.declared.command.Command.TheVariants as command
 use Rattle.tm_base.specs.declared.message.Message.{Message}
@@ -142,3 +144,19 @@ StagesSaid l messages = AllByRecursion (λ (m : Message). StageSaid l m.to m.not
 abbrev pub StagesAreSaid : Option Life → List Message → Type 0
 StagesAreSaid None messages = Unit {0}
 StagesAreSaid (Some l) messages = StagesSaid l messages
+
+-- ---- what was read is heard
+
+-- What a group tells was heard, and the group itself, but for what is of the own writer.
+pub record GroupHeard (s : clock.State) (g : Group) : Type 0 where
+  pub learnt : (q : ℕ) → nat_eq q s.writer ≡ false → stamp_of g.learnt q ≤ stamp_of s.heard q
+  pub stamp : nat_eq g.writer.0 s.writer ≡ false → g.stamp.0 ≤ stamp_of s.heard g.writer.0
+
+abbrev pub ScannedAreHeard : clock.State → Option Recovery → Type 0
+ScannedAreHeard s None = Unit {0}
+ScannedAreHeard s (Some r) = AllByRecursion (GroupHeard s) r.scanned
+
+-- Each group of the closed log that was read was heard.
+abbrev pub ReadAreHeard : Option Life → Type 0
+ReadAreHeard None = Unit {0}
+ReadAreHeard (Some l) = ScannedAreHeard l.work.clock l.recovery

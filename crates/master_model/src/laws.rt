@@ -27,7 +27,7 @@ ghost use Rattle.master_model.specs.Causes.{AcknowledgesOwn, EpochCame, Joins, L
 ghost use Rattle.master_model.specs.declared.left.Left.{Left};
 ghost use Rattle.master_model.specs.Refusals.{BecauseIn, IsInSession, RecoverIsSaid};
 ghost use Rattle.tm_data.specs.declared.transaction.Writer.{Writer};
-ghost use Rattle.master_model.specs.Stages.{RecoveryGoes, RecoveryIsAsked, StagesAreSaid};
+ghost use Rattle.master_model.specs.Stages.{ReadAreHeard, RecoveryGoes, RecoveryIsAsked, StagesAreSaid};
 
 /// What holds in every state holds at the start, where nothing is known yet. It speaks of the start alone: refused is
 /// a fact that wants a master to have joined.
@@ -297,7 +297,7 @@ pub fn recalled_pages_go_once_they_may()
 /// that is awaited is asked for by one Request where it has no lease here, by one ReadPage where it is held, and not
 /// otherwise; a fresh page by one RequestFresh; a log store that is awaited hasn't acknowledged that group; and the
 /// other refusals hold of the session, table, key, value, leaf or transaction number that they name. It doesn't speak of
-/// the causes of Full height, Full groups and StampsSpent. Refused is a command that locks by a transaction
+/// the causes of Full groups and StampsSpent. Refused is a command that locks by a transaction
 /// which has ended, one that asks for a fate that was told, and one that awaits a log store which has the group.
 pub fn answers_have_their_causes()
     ensures { (s : State) (session : ℕ) (asked : Command) → IsInSession asked → BecauseIn session s.life (on_command s session asked).0.life (on_command s session asked).2 (on_command s session asked).1 }
@@ -310,4 +310,13 @@ pub fn answers_have_their_causes()
 /// close in each stage.
 pub fn a_recovery_answers_its_stage()
     ensures { (s : State) (session : ℕ) (writer : Writer) → RecoverIsSaid s.life (on_command s session (command.Recover writer)).0.life writer (on_command s session (command.Recover writer)).1 }
+{}
+
+/// Each group of a closed log that was read was heard: what it tells of other writers than the own one, and the group's
+/// own stamp. So a recoverer's clock has come to whatever it undoes. Refused are a recovery that reads groups and hears
+/// only what they tell, and one that hears the last one alone.
+pub fn groups_that_are_read_are_heard()
+    ensures start { (number boot stores : ℕ) → ReadAreHeard (start number boot stores).0.life }
+    ensures message { (begun : ℕ) (s : State) (m : Message) → Facts begun s → Brings m → ReadAreHeard s.life → ReadAreHeard (step s m).0.life }
+    ensures command { (begun : ℕ) (s : State) (session : ℕ) (asked : Command) → Facts begun s → ReadAreHeard s.life → ReadAreHeard (on_command s session asked).0.life }
 {}
