@@ -1,4 +1,5 @@
 mod CountLemmas
 mod FoundLemmas
 mod ListLemmas
+mod PlaceLemmas
 mod PutLemmas

@@ -1,3 +1,4 @@
 pub mod Counts
 pub mod Inside
 pub mod Lists
+pub mod Places

@@ -7,6 +7,7 @@ mod ended;
 mod last_puts;
 mod lists;
 mod numbers;
+mod own_events;
 mod reached;
 #[cfg(test)]
 mod tests;

@@ -1,12 +1,14 @@
 //! The events that reach one event.
-ghost use Rattle.std.specs.Prelude.{◌≡◌, ◌+◌, ◌||◌, ◌&&◌, is_some, IfOk, OnOk};
+ghost use Rattle.std.specs.Prelude.{◌≡◌, ◌+◌, ◌||◌, ◌&&◌, is_some, length, slice_get, IfOk, OnOk};
 ghost use Rattle.std.specs.FinMap as fin;
 ghost use Rattle.std.specs.List.{list_any};
 ghost use Rattle.key_model.specs.Events.{logs, is_of};
 ghost use Rattle.key_model.specs.Causes.{reaching};
+ghost use Rattle.event_cuts.specs.Places.{passes, HasPlaces};
 ghost use Rattle.event_cuts.specs.Inside.{or_zero, or_false, with_number, with_key, with_kind_key, with_found, hits, end_hits, reaches, found_if, HasFound};
 
 use crate::numbers::NumberMap;
+use crate::own_events::{OwnEvents, own_events};
 use key_model::{Event, EventKind};
 use std::alloc::Global;
 use tm_base::{ByteList, Key, Mem, NoMemory, RowKey, RowMap, Txn, Writer};
@@ -117,29 +119,63 @@ fn hits(alloc: Global, keys: &RowMap<bool>, kind: &EventKind) -> Mem<bool>
     }
 }
 
+// Whether the event at a place conflicts with one that was found.
+fn hits_at(alloc: Global, events: &[Event], keys: &RowMap<bool>, place: usize) -> Mem<bool>
+    ensures { IfOk result (λ test. test ≡ passes (λ e. hits keys.now e.kind) (slice_get events.now place)) }
+{
+    match events.get(place) {
+        Some(event) => hits(alloc, keys, &event.kind),
+        None => Ok(false),
+    }
+}
+
 // Whether an event of the transaction conflicts with one that was found.
-fn txn_hits(alloc: Global, events: &[Event], keys: &RowMap<bool>, txn: &Txn) -> Mem<bool>
+fn txn_hits(
+    alloc: Global,
+    events: &[Event],
+    own: &OwnEvents,
+    keys: &RowMap<bool>,
+    txn: &Txn,
+) -> Mem<bool>
+    requires { HasPlaces events.now (length events.now) own.now }
     ensures { IfOk result (λ test. test ≡ list_any (λ e. is_of txn.now e && hits keys.now e.kind) events.now) }
 {
-    for event in events.iter() {
-        if is_of(txn, event) && hits(alloc, keys, &event.kind)? {
+    let Some(places) = own.get(txn) else {
+        return Ok(false);
+    };
+    for place in places.as_slice().iter() {
+        if hits_at(alloc, events, keys, *place)? {
             return Ok(true);
         }
     }
     Ok(false)
 }
 
-fn end_hits(alloc: Global, events: &[Event], keys: &RowMap<bool>, kind: &EventKind) -> Mem<bool>
+fn end_hits(
+    alloc: Global,
+    events: &[Event],
+    own: &OwnEvents,
+    keys: &RowMap<bool>,
+    kind: &EventKind,
+) -> Mem<bool>
+    requires { HasPlaces events.now (length events.now) own.now }
     ensures { IfOk result (λ test. test ≡ end_hits events.now keys.now kind.now) }
 {
     let EventKind::End { txn, .. } = kind else {
         return Ok(false);
     };
-    txn_hits(alloc, events, keys, txn)
+    txn_hits(alloc, events, own, keys, txn)
 }
 
 // Whether the event touches one that was found.
-fn reaches(alloc: Global, events: &[Event], reached: &Reached, event: &Event) -> Mem<bool>
+fn reaches(
+    alloc: Global,
+    events: &[Event],
+    own: &OwnEvents,
+    reached: &Reached,
+    event: &Event,
+) -> Mem<bool>
+    requires { HasPlaces events.now (length events.now) own.now }
     ensures { IfOk result (λ test. test ≡ reaches events.now reached.now event.now) }
 {
     if reached.numbers.get(&event.actor).is_some() {
@@ -148,7 +184,7 @@ fn reaches(alloc: Global, events: &[Event], reached: &Reached, event: &Event) ->
     if hits(alloc, &reached.keys, &event.kind)? {
         return Ok(true);
     }
-    end_hits(alloc, events, &reached.keys, &event.kind)
+    end_hits(alloc, events, own, &reached.keys, &event.kind)
 }
 
 // One more event is found.
@@ -161,10 +197,17 @@ fn add(alloc: Global, reached: &mut Reached, event: &Event) -> Mem<()>
 }
 
 // One more event is looked at.
-fn look(alloc: Global, events: &[Event], reached: &mut Reached, event: &Event) -> Mem<()>
+fn look(
+    alloc: Global,
+    events: &[Event],
+    own: &OwnEvents,
+    reached: &mut Reached,
+    event: &Event,
+) -> Mem<()>
+    requires { HasPlaces events.now (length events.now) own.now }
     ensures { OnOk result (reached.new ≡ found_if (reaches events.now reached.old event.now) reached.old event.now) }
 {
-    if reaches(alloc, events, reached, event)? {
+    if reaches(alloc, events, own, reached, event)? {
         add(alloc, reached, event)?;
     }
     Ok(())
@@ -186,11 +229,12 @@ fn alone(alloc: Global, event: &Event) -> Mem<Reached>
 pub fn reached_by(alloc: Global, events: &[Event], before: &[Event], event: &Event) -> Mem<Reached>
     ensures { IfOk result (λ reached. HasFound reached (reaching events.now before.now event.now)) }
 {
+    let own = own_events(alloc, events)?;
     let mut reached = alone(alloc, event)?;
     let mut at = before.len();
     while at > 0 {
         at -= 1;
-        look(alloc, events, &mut reached, &before[at])?;
+        look(alloc, events, &own, &mut reached, &before[at])?;
     }
     Ok(reached)
 }

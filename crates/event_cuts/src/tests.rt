@@ -207,7 +207,8 @@ fn rows_at_cuts(rt: HostRuntime) -> Result<(), Fail> {
 }
 
 /// A put of writer 3 that is reached from writer 1 through a read of writer 2 alone; reads that don't touch
-/// each other; and ends that touch a later put on a key of their transactions, as nothing else does.
+/// each other; ends that touch a later put on a key of their transactions, as nothing else does; and a list before
+/// and after the close of writer 2 with a length of one group, which strikes the read that led on to its put.
 #[test]
 fn full_vectors(rt: HostRuntime) -> Result<(), Fail> {
     let alloc = rt.alloc();
@@ -227,9 +228,20 @@ fn full_vectors(rt: HostRuntime) -> Result<(), Fail> {
         Deed::Puts(OTHER, 1, b"l", Some(b"b")),
         Deed::Puts(OTHER, 2, b"k", Some(b"d")),
     ];
+    let open = [
+        Deed::Puts(OTHER, 1, b"m", Some(b"a")),
+        Deed::Reads(OTHER, b"k"),
+        Deed::Puts(THIRD, 1, b"k", Some(b"b")),
+    ];
+    let closed = [
+        Deed::Puts(OTHER, 1, b"m", Some(b"a")),
+        Deed::Puts(THIRD, 1, b"k", Some(b"b")),
+    ];
+    let open = events(alloc, open.as_slice())?;
+    let closed = events(alloc, closed.as_slice())?;
     let chain = events(alloc, chain.as_slice())?;
     let ends = events(alloc, ends.as_slice())?;
-    let cases: [(&EventList, usize, &[(u32, u32)]); 8] = [
+    let cases: [(&EventList, usize, &[(u32, u32)]); 10] = [
         (&chain, 0, &[(1, 1)]),
         (&chain, 1, &[(1, 1)]),
         (&chain, 2, &[(1, 1), (2, 1)]),
@@ -238,6 +250,8 @@ fn full_vectors(rt: HostRuntime) -> Result<(), Fail> {
         (&chain, 5, &[(1, 1)]),
         (&ends, 3, &[(2, 1)]),
         (&ends, 4, &[(1, 1), (2, 2), (3, 1)]),
+        (&open, 2, &[(2, 1), (3, 1)]),
+        (&closed, 1, &[(3, 1)]),
     ];
     for (events, j, wanted) in cases.iter() {
         if *j >= events.len() {

@@ -9,7 +9,7 @@ use tm_base::{ItemList, Mem};
 /// Of each actor the number of its logged events among the event at this place, counted from 0, and all before
 /// it that reach it, ascending by writer and without zeros.
 ///
-/// Each end before it may cost a look at all events.
+/// It costs a look at each event, and at those of a transaction again for each of its ends before the event.
 pub fn full_vector(events: &EventList, j: usize) -> Mem<CountList>
     requires { j < length events.now }
     ensures { IfOk result (λ counts. AreCounts (vector_at events.now j) counts) }
