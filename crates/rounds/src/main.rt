@@ -12,6 +12,7 @@ mod failure;
 mod history;
 mod locks;
 mod log;
+mod machine;
 mod pages;
 mod shelf;
 mod tags;

@@ -8,6 +8,7 @@ use crate::failure::Failure;
 use crate::history::{maps, rows};
 use crate::locks::{ask, release, request};
 use crate::log::{acknowledge, append, fetch};
+use crate::machine::{Beside, turns};
 use crate::pages::{add, read};
 use crate::tags;
 use crate::tree::{Order, look, put};
@@ -58,6 +59,10 @@ pub enum Work {
     MapAt(u32),
     /// The rows at that cut are made.
     RowsAt(u32),
+    /// A transaction of the plain machine begins, reads, puts and commits, beside so many.
+    Steps(Beside, u32),
+    /// A writer of the plain machine is closed and recovered, beside so many transactions.
+    Close(Beside, u32),
 }
 
 fn number(word: &str) -> Option<u32> {
@@ -93,6 +98,11 @@ impl Work {
             "find-random" => Some(Work::Look(Order::Random, number(what)?)),
             "map-at" => Some(Work::MapAt(number(what)?)),
             "rows-at" => Some(Work::RowsAt(number(what)?)),
+            "steps-ended" => Some(Work::Steps(Beside::Ended, number(what)?)),
+            "steps-open" => Some(Work::Steps(Beside::Open, number(what)?)),
+            "steps-locked" => Some(Work::Steps(Beside::Locked, number(what)?)),
+            "close-open" => Some(Work::Close(Beside::Open, number(what)?)),
+            "close-locked" => Some(Work::Close(Beside::Locked, number(what)?)),
             _ => None,
         }
     }
@@ -191,5 +201,7 @@ pub fn done(alloc: Global, work: Work, rounds: u32) -> Result<u64, Failure> {
         Work::Look(order, rows) => Ok(look(alloc, order, rows, rounds)? as u64),
         Work::MapAt(events) => maps(alloc, events, rounds),
         Work::RowsAt(events) => rows(alloc, events, rounds),
+        Work::Steps(kind, count) => Ok(turns(alloc, kind, false, count, rounds)? as u64),
+        Work::Close(kind, count) => Ok(turns(alloc, kind, true, count, rounds)? as u64),
     }
 }
