@@ -2,8 +2,8 @@
 ghost use Rattle.std.specs.Prelude.{◌≡◌, IsTrue};
 ghost use Rattle.lease_desk.specs.Desk.{lease_of};
 
-use crate::failure::Failure;
 use lease_desk::{Desk, Lease};
+use round_samples::Failure;
 use std::alloc::Global;
 use tm_base::{Mem, Page, Stamp};
 

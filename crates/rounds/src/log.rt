@@ -4,9 +4,9 @@ ghost use Rattle.std.specs.Bool.{OnTrue};
 ghost use Rattle.log_writer.specs.Log.{durable_seq, last_stamp};
 ghost use Rattle.rounds.specs.Answers.{all_acked, answers, moved, stored};
 
-use crate::failure::Failure;
 use log_store::LogStore;
 use log_writer::LogWriter;
+use round_samples::Failure;
 use std::alloc::Global;
 use tm_base::{Group, Mem, Message, Node, Note, Record, RecordList, Stamp, Vector, Writer};
 

@@ -8,7 +8,6 @@
 
 mod codec;
 mod desk;
-mod failure;
 mod history;
 mod locks;
 mod log;
@@ -19,7 +18,7 @@ mod tags;
 mod tree;
 mod work;
 
-use failure::Failure;
+use round_samples::Failure;
 use std::alloc::Global;
 use std::env::{self, Env};
 use std::io;

@@ -2,7 +2,7 @@
 ghost use Rattle.std.specs.Prelude.{◌≡◌, IfOk, Some};
 ghost use Rattle.page_model.specs.Effects.{page_of, prev_of};
 
-use crate::failure::Failure;
+use round_samples::Failure;
 use std::alloc::Global;
 use tm_base::{Before, Key, Page, Record, Row, Stamp, Txn, Writer};
 use version_chain::Chains;

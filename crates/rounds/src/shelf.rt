@@ -4,8 +4,8 @@ ghost use Rattle.std.specs.Bool.{OnTrue};
 ghost use Rattle.page_model.specs.Effects.{page_of, redone_at};
 ghost use Rattle.rounds.specs.Shelves.{on_shelf, HasKey, LeafHas, HasRowOf, Redoes};
 
-use crate::failure::Failure;
 use page_redo::{apply, initial};
+use round_samples::Failure;
 use row_tree::{Pages, Path, Plan, PlanError, find, plan_put};
 use std::alloc::Global;
 use tm_base::{Body, Image, Key, KeyPlace, Page, Record, Row, RowList, Stamp};

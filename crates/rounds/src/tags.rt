@@ -1,8 +1,8 @@
 //! A master's tags.
 ghost use Rattle.std.specs.Prelude.{◌≡◌, ◌≤◌, IfOk};
 
-use crate::failure::Failure;
 use lock_table::{TagError, Tags};
+use round_samples::Failure;
 use std::alloc::Global;
 use std::marker::Brand;
 use std::sync::ledger::{Blank, Ledger};

@@ -2,8 +2,8 @@
 ghost use Rattle.std.specs.Prelude.{◌≡◌, IfOk, OnOk, All, length, vec_len};
 ghost use Rattle.rounds.specs.Shelves.{on_shelf, HasKey};
 
-use crate::failure::Failure;
 use crate::shelf::Shelf;
+use round_samples::Failure;
 use std::alloc::Global;
 use tm_base::{Before, Key, Row, TryCopy, Txn, Value, Writer};
 

@@ -4,7 +4,6 @@ ghost use Rattle.node_messages.specs.Spelling.{message_bytes, IsMessage};
 
 use crate::codec::{read_group, read_image, read_message, write_group, write_image, write_message};
 use crate::desk::{seek, turn};
-use crate::failure::Failure;
 use crate::history::{maps, rows};
 use crate::locks::{ask, release, request};
 use crate::log::{acknowledge, append, fetch};
@@ -12,7 +11,7 @@ use crate::machine::{Beside, turns};
 use crate::pages::{add, read};
 use crate::tags;
 use crate::tree::{Order, look, put};
-use round_samples::{Sample, bytes};
+use round_samples::{Failure, Sample, bytes};
 use std::alloc::Global;
 use tm_base::Message;
 
