@@ -26,6 +26,7 @@ pub fn read_txn(total: usize, bytes: &[u8]) -> Result<(Txn, &[u8]), ReadError>
 }
 
 /// A key of these bytes. Bytes that are no key count as want of memory, so read them as one first.
+#[inline(always)]
 pub fn own_key(alloc: Global, bytes: &[u8]) -> Result<Key, ReadError>
     ensures { Gives (λ key. key) result (Ok bytes.now) }
 {

@@ -14,6 +14,7 @@ use wire_fields::{
     ReadError, put_before, put_key, put_u16, put_u32, put_value, read_before, read_value,
 };
 
+#[inline(always)]
 fn own_value(alloc: Global, value: Option<&[u8]>) -> Result<Option<Value>, ReadError>
     ensures { Gives (λ v. v) result (Ok (option_copied value.entry)) }
 {
@@ -26,6 +27,7 @@ fn own_value(alloc: Global, value: Option<&[u8]>) -> Result<Option<Value>, ReadE
     }
 }
 
+#[inline(always)]
 fn own_before(alloc: Global, before: Option<Option<&[u8]>>) -> Result<Before, ReadError>
     ensures { Gives (λ v. v) result (Ok (before_of (option_map option_copied before.entry))) }
 {
@@ -39,6 +41,7 @@ fn own_before(alloc: Global, before: Option<Option<&[u8]>>) -> Result<Before, Re
 }
 
 #[tactic(auto, unfolding(crate::specs::Reading::row_after))]
+#[inline(always)]
 fn read_row_after<'a>(
     alloc: Global,
     total: usize,
@@ -64,6 +67,7 @@ fn read_row_after<'a>(
 }
 
 #[tactic(auto, unfolding(crate::specs::Reading::row_at))]
+#[inline(always)]
 fn read_row_in<'a>(
     alloc: Global,
     total: usize,
