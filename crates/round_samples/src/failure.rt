@@ -1,4 +1,5 @@
 //! Why a work ended before its last round.
+use lock_table::TagError;
 use page_redo::RedoError;
 use row_tree::{FindError, PlanError};
 use std::alloc::{AllocError, AllocFailed};
@@ -92,6 +93,15 @@ impl From<PlanError> for Failure {
         match error {
             PlanError::NoMemory => Failure::NoMemory,
             _ => Failure::Refused,
+        }
+    }
+}
+
+impl From<TagError> for Failure {
+    fn from(error: TagError) -> Failure {
+        match error {
+            TagError::Full => Failure::Refused,
+            TagError::NoMemory => Failure::NoMemory,
         }
     }
 }

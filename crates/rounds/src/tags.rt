@@ -1,7 +1,7 @@
 //! A master's tags.
 ghost use Rattle.std.specs.Prelude.{◌≡◌, ◌≤◌, IfOk};
 
-use lock_table::{TagError, Tags};
+use lock_table::Tags;
 use round_samples::Failure;
 use std::alloc::Global;
 use std::marker::Brand;
@@ -10,15 +10,6 @@ use tm_base::{Key, Page, Steps, Txn, Writer};
 
 /// A transaction has this many tags, and so has a page of a table of many pages.
 const TEN: u32 = 10;
-
-impl From<TagError> for Failure {
-    fn from(error: TagError) -> Failure {
-        match error {
-            TagError::Full => Failure::Refused,
-            TagError::NoMemory => Failure::NoMemory,
-        }
-    }
-}
 
 // The transaction of this number, of the writer that ends its transactions here.
 fn own(number: u32) -> Txn {
