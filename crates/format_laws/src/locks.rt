@@ -11,8 +11,8 @@ ghost use Rattle.format_laws.specs.Spelled.{AllSpelled, IsSpelled};
 use lock_model::laws;
 
 /// What the lock manager keeps can be spelled, at the start and after each step, if the step's message can: its scalar, the
-/// stamp and the vector of each page, and the vector of each recovered writer. Refused is a takeover whose listed stamp
-/// is added to the page's, and a vector that is put behind the other one instead of being joined.
+/// stamp and the vector of each page, and the vector of each recovered writer. It follows from what a step makes of pages
+/// and writers; refused is whatever that law refuses.
 pub fn what_it_keeps_can_be_spelled()
     ensures start { LocksAreSpelled start }
     ensures step { (s : State) (m : Message) → Facts s → LocksAreSpelled s → IsSpelled m → LocksAreSpelled (step s m).0 }
@@ -23,7 +23,7 @@ pub fn what_it_keeps_can_be_spelled()
 }
 
 /// So can what it sends: its scalar, a page's stamp and vector in a grant, the vectors of recovered writers, and the
-/// numbers of writers. Refused is a lock manager that numbers its writers from 0.
+/// numbers of writers. It follows from what these messages say of the state after the step.
 pub fn what_it_sends_can_be_spelled()
     ensures { (s : State) (m : Message) → Facts s → LocksAreSpelled s → IsSpelled m → AllSpelled (step s m).2 }
 {

@@ -21,7 +21,7 @@ pub fn a_log_can_be_spelled()
 
 /// What a master keeps can be spelled, at the start, after each message that can be spelled, and after each command: the stamp
 /// of each page's last change, what was told of each page that is being given back, and the groups that a recovery has
-/// read. Refused is a master that logs a group where stamps are spent.
+/// read. Refused is a page that is given back with what wasn't told yet put behind the vector for sending.
 pub fn what_it_keeps_can_be_spelled()
     ensures start { (number boot stores : ℕ) → LifeIsSpelled (start number boot stores).0.life }
     ensures message { (begun : ℕ) (s : State) (m : Message) → Facts begun s → Brings m → LifeIsSpelled s.life → LifeIsSpelled (step s m).0.life }
@@ -32,8 +32,8 @@ pub fn what_it_keeps_can_be_spelled()
 
 /// So can what it sends, where the messages say what the state after the step has: its scalar, or the stamp of the page
 /// that is read; the vector for sending, which ascends, has no stamp of 0 and none above the scalar; what is told of a
-/// page that is given back; and the listed stamps of a takeover. Refused is a takeover that lists another stamp than that
-/// of a group.
+/// page that is given back; and the listed stamps of a takeover. Refused is a takeover that lists the stamp after that of a
+/// page's last change.
 pub fn what_it_sends_can_be_spelled()
     ensures { (begun : ℕ) (s : State) (messages : List Message) → Facts begun s → LifeIsSpelled s.life → Sent s messages → StagesAreSaid s.life messages → AllSpelled messages }
 {}

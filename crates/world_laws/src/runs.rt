@@ -57,8 +57,7 @@ pub fn it_always_holds()
 
 /// Each message that was ever sent can be spelled by the format of messages, as far as nodes take stamps and vectors from it:
 /// its stamp is at most 2^63 - 1, its vectors ascend by writers from 1 on, without a stamp of 0 or above 2^63 - 1, and so do
-/// those of its groups, whose stamps are up to there too. Refused is a master that sends a vector with an entry of 0, and one
-/// that logs a group where stamps are spent.
+/// those of its groups, whose stamps are up to there too. Refused is whatever the laws of a step refuse.
 pub fn what_was_sent_can_be_spelled()
     ensures { Always SentAreSpelled }
 {

@@ -6,7 +6,7 @@ use lock_model::laws as lock_laws;
 use master_model::laws;
 
 /// Each step that a schedule can write keeps it: what is sent can be spelled, and what each node keeps, if what it takes in
-/// could be. Refused is a page store that asks a master to come to a stamp that no schedule can name.
+/// could be. Refused is a store that also asks a master to come to the stamp of a version that isn't there.
 pub fn each_step_keeps_it_spelled()
     ensures { StepSpells }
 {
@@ -35,8 +35,8 @@ pub fn it_begins_spelled()
     stores::a_log_store_sends_what_can_be_spelled();
 }
 
-/// So each message that was ever sent can be spelled, with its groups, which are of the writers' logs. Refused is a log store
-/// that serves a group which its writer didn't log.
+/// So each message that was ever sent can be spelled, with its groups. That follows from what is said of messages and logs:
+/// the groups that are appended and served are the writers' own.
 pub fn what_is_sent_can_be_spelled()
     ensures { SentCanBeSpelled }
 {
