@@ -1,15 +1,15 @@
 mod AwaitedLemmas
 mod LoggedLemmas
 mod PlanLemmas
-mod Moves
-mod StepMoves
+pub mod Moves
+pub mod StepMoves
 mod GoesLemmas
 mod LackLemmas
 mod PlaceLemmas
 mod StepGoes
-mod FactLemmas
+pub mod FactLemmas
 mod PageLemmas
-mod LeaseLemmas
+pub mod LeaseLemmas
 mod SessionLemmas
 mod StepFacts
 mod Answers
@@ -26,7 +26,7 @@ mod BegunLemmas
 mod OnceLemmas
 mod OpenEndLemmas
 mod EndedLemmas
-mod CauseLemmas
+pub mod CauseLemmas
 mod EpochLemmas
 mod StageLemmas
 mod KeptLemmas

@@ -16,3 +16,5 @@ mod PastLemmas
 mod MasterSteps
 mod MasterDeliveries
 mod RunLemmas
+mod SpelledLemmas
+mod SpelledSteps

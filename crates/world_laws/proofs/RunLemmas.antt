@@ -10,6 +10,7 @@ use Rattle.tm_base.specs.declared.message.Note.TheVariants as note
 use Rattle.tm_base.specs.declared.message.RosterEntry.{RosterEntry}
 use Rattle.tm_base.specs.declared.message.WriterState.{WriterState}
 use Rattle.tm_base.specs.declared.message.WriterState.TheVariants as told
+use Rattle.tm_base.specs.declared.step.Step.{Step}
 use Rattle.tm_base.specs.declared.step.Step.TheVariants as step
 use Rattle.lock_model.specs.declared.writer.WriterEntry.{WriterEntry}
 use Rattle.lock_model.specs.declared.writer.WriterStatus.{WriterStatus}
@@ -19,6 +20,7 @@ use Rattle.lock_model.specs.Runs.{LogEnd, end_of as end_in, ended_at, told_of}
 use Rattle.lock_model.specs.Goes as lock_goes
 use Rattle.lock_model.specs.State as locks
 use Rattle.lock_model.specs.State.{at}
+use Rattle.master_model.specs.Facts.{Brings}
 use Rattle.store_model.specs.LogGoes as store_goes
 use Rattle.store_model.specs.LogState.{LogStoreState}
 use Rattle.tm_data.specs.declared.log.Group.{Group}
@@ -36,7 +38,8 @@ use Rattle.world_laws.specs.Beside.{Beside, after_step, after_steps, durable_by,
 use Rattle.world_laws.specs.Invariant.{ApartDeliveryHolds, ApartStepHolds, BeginHolds, CommandHolds, LockDeliveryHolds, LockStepHolds, LogsHold, MasterDeliveryHolds, MasterTickHolds, StepKeeps, StoreDeliveryHolds, StoreStepHolds}
 use Rattle.world_laws.specs.Kept.{hard, locks_kept, log_kept}
 use Rattle.world_laws.specs.Messages.{MasterSays, Says, SaysFrom, View, ViewGoes, view}
-use Rattle.world_laws.specs.Runs.{AllTell, Always, BringsSome, DurableIsHeld, EndsKeepDurable, ListsAreFronts, ListsStay, NeverFalls, RunKeeps, StepHolds, Tells, WritersDiffer}
+use Rattle.world_laws.specs.Runs.{AllTell, Always, DurableIsHeld, EndsKeepDurable, Holds, ListsAreFronts, ListsStay, NeverFalls, RunKeeps, SentAreSpelled, StepHolds, Tells, WritersDiffer}
+use Rattle.world_laws.specs.Spelled.{BeginSpells, SentCanBeSpelled, SpelledBrings, SpelledHolds, StepSpells}
 use Rattle.world_laws.proofs.ApartLemmas.{nothing_holds}
 use Rattle.world_laws.proofs.LockMoves.{StillLaws, at_most, view_still}
 use Rattle.world_laws.proofs.MarkLemmas.{reached_marked}
@@ -57,55 +60,64 @@ pub record StepLaws : Type 0 where
   pub master_delivery : MasterDeliveryHolds
   pub command : CommandHolds
   pub master_tick : MasterTickHolds
+  pub spells : StepSpells
+  pub sent : SentCanBeSpelled
+  pub brings : SpelledBrings
 
 pub sent_before : {X : Type 0} (P : X → Type 0) (xs : List X) (i : ℕ) (x : X) → AllByRecursion P xs → slice_get xs i ≡ Some x → P x
 sent_before P [] i x h is = absurd (cc is)
 sent_before P (y ∷ ys) zero x h is = let one : y ≡ x = cc is in subst P one h.0
 sent_before P (y ∷ ys) (suc i) x h is = sent_before P ys i x h.1 is
 
-delivered_to : StepLaws → (w : World) (b : Beside) (m : Message) → Says (view w b) m → BringsSome (Some m) → LogsHold w b → (to : Node) → m.to ≡ to
+delivered_to : StepLaws → (w : World) (b : Beside) (m : Message) → Says (view w b) m → Brings m → LogsHold w b → (to : Node) → m.to ≡ to
     → StepKeeps w b (delivers_to w m to).world (with_moved b w (delivers_to w m to).world (receiver (Some (record m { to = to }))))
-delivered_to law w b m says brings h (Master number) is = law.master_delivery w b number m is says (brings number is) h
+delivered_to law w b m says brings h (Master number) is = law.master_delivery w b number m is says brings h
 delivered_to law w b m says brings h (LogStore number) is = law.store_delivery w b number m is says h
 delivered_to law w b m says brings h (PageStore number) is = law.apart_delivery w b m (PageStore number) tt h
 delivered_to law w b m says brings h LockManager is = law.lock_delivery w b m says h
 delivered_to law w b m says brings h (Replica number) is = law.apart_delivery w b m (Replica number) tt h
 
-delivered : StepLaws → (w : World) (b : Beside) (number : ℕ) → (o : Option Message) → slice_get w.sent (number - 1) ≡ o → BringsSome o → LogsHold w b
+delivered : StepLaws → (w : World) (b : Beside) (number : ℕ) → (o : Option Message) → slice_get w.sent (number - 1) ≡ o → LogsHold w b → SpelledHolds w
     → StepKeeps w b (delivers_some w o).world (with_moved b w (delivers_some w o).world (receiver o))
-delivered law w b number None is brings h = nothing_holds law.still w b h
-delivered law w b number (Some m) is brings h = delivered_to law w b m (sent_before (Says (view w b)) w.sent (number - 1) m h.sent is) brings h m.to refl
+delivered law w b number None is h k = nothing_holds law.still w b h
+delivered law w b number (Some m) is h k =
+    delivered_to law w b m (sent_before (Says (view w b)) w.sent (number - 1) m h.sent is) (law.brings m (law.sent w b h k (number - 1) m is)) h m.to refl
+
+logs_hold : StepLaws → (w : World) (b : Beside) (s : Step) → LogsHold w b → SpelledHolds w → StepKeeps w b (world_step w s).world (after_step b w s)
+logs_hold law w b (step.Do number session asked) h k = law.command w b number session asked h
+logs_hold law w b (step.Deliver number) h k = delivered law w b number (slice_get w.sent (number - 1)) refl h k
+logs_hold law w b (step.Lose number) h k = law.apart_step w b (step.Lose number) tt h
+logs_hold law w b (step.Tick (Master number)) h k = law.master_tick w b number h
+logs_hold law w b (step.Tick (LogStore number)) h k = law.store_step w b number (step.Tick (LogStore number)) refl h
+logs_hold law w b (step.Tick (PageStore number)) h k = law.apart_step w b (step.Tick (PageStore number)) tt h
+logs_hold law w b (step.Tick LockManager) h k = law.lock_step w b (step.Tick LockManager) tt h
+logs_hold law w b (step.Tick (Replica number)) h k = law.apart_step w b (step.Tick (Replica number)) tt h
+logs_hold law w b (step.Stop (Master number) mode) h k = law.apart_step w b (step.Stop (Master number) mode) tt h
+logs_hold law w b (step.Stop (LogStore number) mode) h k = law.store_step w b number (step.Stop (LogStore number) mode) refl h
+logs_hold law w b (step.Stop (PageStore number) mode) h k = law.apart_step w b (step.Stop (PageStore number) mode) tt h
+logs_hold law w b (step.Stop LockManager mode) h k = law.lock_step w b (step.Stop LockManager mode) tt h
+logs_hold law w b (step.Stop (Replica number) mode) h k = law.apart_step w b (step.Stop (Replica number) mode) tt h
+logs_hold law w b (step.Start (Master number)) h k = law.apart_step w b (step.Start (Master number)) tt h
+logs_hold law w b (step.Start (LogStore number)) h k = law.store_step w b number (step.Start (LogStore number)) refl h
+logs_hold law w b (step.Start (PageStore number)) h k = law.apart_step w b (step.Start (PageStore number)) tt h
+logs_hold law w b (step.Start LockManager) h k = law.lock_step w b (step.Start LockManager) tt h
+logs_hold law w b (step.Start (Replica number)) h k = law.apart_step w b (step.Start (Replica number)) tt h
+logs_hold law w b (step.Fail (Master number) call mode) h k = law.apart_step w b (step.Fail (Master number) call mode) tt h
+logs_hold law w b (step.Fail (LogStore number) call mode) h k = law.store_step w b number (step.Fail (LogStore number) call mode) refl h
+logs_hold law w b (step.Fail (PageStore number) call mode) h k = law.apart_step w b (step.Fail (PageStore number) call mode) tt h
+logs_hold law w b (step.Fail LockManager call mode) h k = law.lock_step w b (step.Fail LockManager call mode) tt h
+logs_hold law w b (step.Fail (Replica number) call mode) h k = law.apart_step w b (step.Fail (Replica number) call mode) tt h
+logs_hold law w b (step.Page number page stamp) h k = law.apart_step w b (step.Page number page stamp) tt h
+logs_hold law w b (step.Version number page stamp) h k = law.apart_step w b (step.Version number page stamp) tt h
+logs_hold law w b (step.Publish number bound) h k = law.apart_step w b (step.Publish number bound) tt h
+logs_hold law w b (step.Lag number) h k = law.apart_step w b (step.Lag number) tt h
+logs_hold law w b (step.Get number point table key) h k = law.apart_step w b (step.Get number point table key) tt h
+logs_hold law w b (step.Scan number point table from count) h k = law.apart_step w b (step.Scan number point table from count) tt h
 
 pub step_holds : StepLaws → StepHolds
-step_holds law w b (step.Do number session asked) brings h = law.command w b number session asked h
-step_holds law w b (step.Deliver number) brings h = delivered law w b number (slice_get w.sent (number - 1)) refl brings h
-step_holds law w b (step.Lose number) brings h = law.apart_step w b (step.Lose number) tt h
-step_holds law w b (step.Tick (Master number)) brings h = law.master_tick w b number h
-step_holds law w b (step.Tick (LogStore number)) brings h = law.store_step w b number (step.Tick (LogStore number)) refl h
-step_holds law w b (step.Tick (PageStore number)) brings h = law.apart_step w b (step.Tick (PageStore number)) tt h
-step_holds law w b (step.Tick LockManager) brings h = law.lock_step w b (step.Tick LockManager) tt h
-step_holds law w b (step.Tick (Replica number)) brings h = law.apart_step w b (step.Tick (Replica number)) tt h
-step_holds law w b (step.Stop (Master number) mode) brings h = law.apart_step w b (step.Stop (Master number) mode) tt h
-step_holds law w b (step.Stop (LogStore number) mode) brings h = law.store_step w b number (step.Stop (LogStore number) mode) refl h
-step_holds law w b (step.Stop (PageStore number) mode) brings h = law.apart_step w b (step.Stop (PageStore number) mode) tt h
-step_holds law w b (step.Stop LockManager mode) brings h = law.lock_step w b (step.Stop LockManager mode) tt h
-step_holds law w b (step.Stop (Replica number) mode) brings h = law.apart_step w b (step.Stop (Replica number) mode) tt h
-step_holds law w b (step.Start (Master number)) brings h = law.apart_step w b (step.Start (Master number)) tt h
-step_holds law w b (step.Start (LogStore number)) brings h = law.store_step w b number (step.Start (LogStore number)) refl h
-step_holds law w b (step.Start (PageStore number)) brings h = law.apart_step w b (step.Start (PageStore number)) tt h
-step_holds law w b (step.Start LockManager) brings h = law.lock_step w b (step.Start LockManager) tt h
-step_holds law w b (step.Start (Replica number)) brings h = law.apart_step w b (step.Start (Replica number)) tt h
-step_holds law w b (step.Fail (Master number) call mode) brings h = law.apart_step w b (step.Fail (Master number) call mode) tt h
-step_holds law w b (step.Fail (LogStore number) call mode) brings h = law.store_step w b number (step.Fail (LogStore number) call mode) refl h
-step_holds law w b (step.Fail (PageStore number) call mode) brings h = law.apart_step w b (step.Fail (PageStore number) call mode) tt h
-step_holds law w b (step.Fail LockManager call mode) brings h = law.lock_step w b (step.Fail LockManager call mode) tt h
-step_holds law w b (step.Fail (Replica number) call mode) brings h = law.apart_step w b (step.Fail (Replica number) call mode) tt h
-step_holds law w b (step.Page number page stamp) brings h = law.apart_step w b (step.Page number page stamp) tt h
-step_holds law w b (step.Version number page stamp) brings h = law.apart_step w b (step.Version number page stamp) tt h
-step_holds law w b (step.Publish number bound) brings h = law.apart_step w b (step.Publish number bound) tt h
-step_holds law w b (step.Lag number) brings h = law.apart_step w b (step.Lag number) tt h
-step_holds law w b (step.Get number point table key) brings h = law.apart_step w b (step.Get number point table key) tt h
-step_holds law w b (step.Scan number point table from count) brings h = law.apart_step w b (step.Scan number point table from count) tt h
+step_holds law w b s is h =
+    let kept = logs_hold law w b s h.logs h.spelled in
+    record { holds = record { logs = kept.holds; spelled = law.spells w b s is h.logs h.spelled }; goes = kept.goes }
 
 -- ---- every run
 
@@ -127,44 +139,48 @@ view_twice law x y z f g = record {
 }
 
 pub run_keeps : TwiceLaws → StepHolds → RunKeeps
-run_keeps law each w b [] brings h = record { holds = h; goes = view_still law.still w b }
-run_keeps law each w b (s ∷ ss) brings h =
-    let one = each w b s brings.0 h in
-    let rest = run_keeps law each (world_step w s).world (after_step b w s) ss brings.1 one.holds in
+run_keeps law each w b [] are h = record { holds = h; goes = view_still law.still w b }
+run_keeps law each w b (s ∷ ss) are h =
+    let one = each w b s are.0 h in
+    let rest = run_keeps law each (world_step w s).world (after_step b w s) ss are.1 one.holds in
     record { holds = rest.holds; goes = view_twice law (view w b) (view (world_step w s).world (after_step b w s)) (view (run (world_step w s).world ss) (after_steps (after_step b w s) (world_step w s).world ss)) one.goes rest.goes }
 
-pub always : RunKeeps → BeginHolds → Always LogsHold
-always law began masters page_stores replicas ss brings = (law (begin masters page_stores replicas) nothing ss brings (began masters page_stores replicas)).holds
+pub always : RunKeeps → BeginHolds → BeginSpells → Always Holds
+always law began spelled masters page_stores replicas ss are =
+    (law (begin masters page_stores replicas) nothing ss are (record { logs = began masters page_stores replicas; spelled = spelled masters page_stores replicas })).holds
 
 pub lists_stay : RunKeeps → ListsStay
-lists_stay law w b steps store writer brings h = ((law w b steps brings h).goes.stores store).logs writer
+lists_stay law w b steps store writer are h = ((law w b steps are h).goes.stores store).logs writer
 
 pub never_falls : RunKeeps → NeverFalls
-never_falls law w b steps writer brings h = (law w b steps brings h).goes.most writer
+never_falls law w b steps writer are h = (law w b steps are h).goes.most writer
 
-pub so_always : (P : World → Beside → Type 0) → ((w : World) (b : Beside) → LogsHold w b → P w b) → Always LogsHold → Always P
-so_always P so h masters page_stores replicas ss brings =
-    so (run (begin masters page_stores replicas) ss) (after_steps nothing (begin masters page_stores replicas) ss) (h masters page_stores replicas ss brings)
+pub so_always : (P : World → Beside → Type 0) → ((w : World) (b : Beside) → Holds w b → P w b) → Always Holds → Always P
+so_always P so h masters page_stores replicas ss are =
+    so (run (begin masters page_stores replicas) ss) (after_steps nothing (begin masters page_stores replicas) ss) (h masters page_stores replicas ss are)
 
 -- What is so of every world is always so.
 pub of_every : (P : World → Beside → Type 0) → ((w : World) (b : Beside) → P w b) → Always P
-of_every P so masters page_stores replicas ss brings = so (run (begin masters page_stores replicas) ss) (after_steps nothing (begin masters page_stores replicas) ss)
+of_every P so masters page_stores replicas ss are = so (run (begin masters page_stores replicas) ss) (after_steps nothing (begin masters page_stores replicas) ss)
 
 -- ---- what follows
 
-pub fronts : (w : World) (b : Beside) → LogsHold w b → ListsAreFronts w b
+fronts : (w : World) (b : Beside) → LogsHold w b → ListsAreFronts w b
 fronts w b h store writer = (h.stores store).disk.of.lists writer
 
-pub held : (w : World) (b : Beside) → LogsHold w b → DurableIsHeld w b
+pub held : (w : World) (b : Beside) → Holds w b → DurableIsHeld w b
 held w b h store writer of =
     within (length (log_of (log_kept w store) writer).groups) (durable_by (fin.get b.lives writer))
-    (λ one. (h.stores store).disk.acks writer (durable_by (fin.get b.lives writer)) (reached_marked (fin.get b.lives writer) store of one))
+    (λ one. (h.logs.stores store).disk.acks writer (durable_by (fin.get b.lives writer)) (reached_marked (fin.get b.lives writer) store of one))
 
-pub ends_keep : (w : World) (b : Beside) → LogsHold w b → EndsKeepDurable w b
-ends_keep w b h writer end is = ((h.lives.ends writer end is).least, (h.stores end.store).disk.ended writer end is refl)
+pub ends_keep : (w : World) (b : Beside) → Holds w b → EndsKeepDurable w b
+ends_keep w b h writer end is = ((h.logs.lives.ends writer end is).least, (h.logs.stores end.store).disk.ended writer end is refl)
 
 pub differ : ((inputs : List Message) (v u : ℕ) (e f : WriterEntry) → lock_runs.WritersDiffer inputs v u e f) → (w : World) (b : Beside) → WritersDiffer w b
 differ law w b v u e f is_e is_f master boot = law w.lock_disk.records v u e f is_e is_f master boot
+
+pub lists_are_fronts : (w : World) (b : Beside) → Holds w b → ListsAreFronts w b
+lists_are_fronts w b h = fronts w b h.logs
 
 -- ---- what messages tell
 
@@ -218,5 +234,8 @@ tells w b m h (Replica number) f = replica_tells w b number m.note
     replica_tells : (w : World) (b : Beside) (number : ℕ) (n : Note) → Tells w b (Replica number) n
     replica_tells w b number n = tt
 
-pub all_tell : (w : World) (b : Beside) → LogsHold w b → AllTell w b
-all_tell w b h number m is = tells w b m h m.from (sent_before (Says (view w b)) w.sent number m h.sent is)
+pub all_tell : (w : World) (b : Beside) → Holds w b → AllTell w b
+all_tell w b h number m is = tells w b m h.logs m.from (sent_before (Says (view w b)) w.sent number m h.logs.sent is)
+
+pub all_spelled : SentCanBeSpelled → (w : World) (b : Beside) → Holds w b → SentAreSpelled w b
+all_spelled law w b h = law w b h.logs h.spelled

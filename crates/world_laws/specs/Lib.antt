@@ -5,4 +5,5 @@ pub mod LogStores
 pub mod Lives
 pub mod Messages
 pub mod Invariant
+pub mod Spelled
 pub mod Runs

@@ -1,8 +1,7 @@
 -- What holds of every run of the world, from its beginning.
-use Rattle.std.specs.Prelude.{◌≡◌, ◌≤◌, ℕ, ◌+◌, ◌-◌, List, [], ◌∷◌, length, slice_get, false}
+use Rattle.std.specs.Prelude.{◌≡◌, ◌≤◌, ℕ, ◌+◌, List, length, slice_get, false}
 use Rattle.std.specs.FinMap as fin
-use Rattle.std.specs.declared.option.Option.{Option}
-use Rattle.std.specs.declared.option.Option.TheVariants.{None, Some}
+use Rattle.std.specs.declared.option.Option.TheVariants.{Some}
 use Rattle.tm_data.specs.declared.log.Group.{Group}
 use Rattle.tm_base.specs.declared.message.Message.{Message}
 use Rattle.tm_base.specs.declared.message.Node.{Node}
@@ -11,11 +10,9 @@ use Rattle.tm_base.specs.declared.message.Note.{Note}
 use Rattle.tm_base.specs.declared.message.Note.TheVariants as note
 use Rattle.tm_base.specs.declared.message.RosterEntry.{RosterEntry}
 use Rattle.tm_base.specs.declared.step.Step.{Step}
-use Rattle.tm_base.specs.declared.step.Step.TheVariants as step
 use Rattle.lock_model.specs.declared.writer.WriterEntry.{WriterEntry}
 use Rattle.lock_model.specs.Runs.{LogEnd, told_of}
 use Rattle.lock_model.specs.State.{at}
-use Rattle.master_model.specs.Facts.{Brings}
 use Rattle.store_model.specs.LogFacts.{IsSealedWith}
 use Rattle.store_model.specs.LogGoes.{IsFront, LogGoes}
 use Rattle.store_model.specs.LogState.{log_of, numbered}
@@ -23,39 +20,38 @@ use Rattle.store_model.specs.PageState.{is_live}
 use Rattle.world_model.specs.World.{World}
 use Rattle.world_model.specs.Step.{begin, run, world_step}
 use Rattle.world_laws.specs.Beside.{Beside, after_step, after_steps, durable_by, log_by, nothing}
-use Rattle.world_laws.specs.Invariant.{LogsHold, StepKeeps}
+use Rattle.world_laws.specs.Invariant.{LogsHold}
 use Rattle.world_laws.specs.Kept.{IsOneOfThree, end_of, hard, locks_kept, log_kept}
+use Rattle.world_laws.specs.Messages.{ViewGoes, view}
+use Rattle.world_laws.specs.Spelled.{AllCanBeSpelled, AreSteps, IsStep, SpelledHolds}
 
--- ---- what is asked of a run
+-- ---- the whole invariant
 
--- A message that comes to a master has what the format of messages can spell: vectors that ascend, writers from 1 on, and
--- stamps up to 2^63 - 1.
-abbrev pub BringsSome : Option Message → Type 0
-BringsSome None = Unit {0}
-BringsSome (Some m) = (number : ℕ) → m.to ≡ Master number → Brings m
+-- What is said of messages, logs and disks; and all that was ever sent can be spelled.
+pub record Holds (w : World) (b : Beside) : Type 0 where
+  pub logs : LogsHold w b
+  pub spelled : SpelledHolds w
 
-abbrev pub BringsIn : World → Step → Type 0
-BringsIn w (step.Deliver number) = BringsSome (slice_get w.sent (number - 1))
-BringsIn w other = Unit {0}
-
-abbrev pub BringAll : World → List Step → Type 0
-BringAll w [] = Unit {0}
-BringAll w (s ∷ ss) = BringsIn w s × BringAll (world_step w s).world ss
+-- What a step or several lead to: all of it holds, and the world has gone on as old messages want it.
+pub record HoldsOn (w : World) (b : Beside) (t : World) (c : Beside) : Type 0 where
+  pub holds : Holds t c
+  pub goes : ViewGoes (view w b) (view t c)
 
 -- ---- every step, and every run
 
 abbrev pub StepHolds : Type 0
-StepHolds = (w : World) (b : Beside) (s : Step) → BringsIn w s → LogsHold w b → StepKeeps w b (world_step w s).world (after_step b w s)
+StepHolds = (w : World) (b : Beside) (s : Step) → IsStep s → Holds w b → HoldsOn w b (world_step w s).world (after_step b w s)
 
--- And several: from any world in which all of it holds.
+-- And several, that a schedule can write: from any world in which all of it holds.
 abbrev pub RunKeeps : Type 0
-RunKeeps = (w : World) (b : Beside) (steps : List Step) → BringAll w steps → LogsHold w b → StepKeeps w b (run w steps) (after_steps b w steps)
+RunKeeps = (w : World) (b : Beside) (steps : List Step) → AreSteps steps → Holds w b → HoldsOn w b (run w steps) (after_steps b w steps)
 
--- A statement of a world and of what is kept beside it is so after every list of steps, in a world of so many nodes.
+-- A statement of a world and of what is kept beside it is so after every list of steps that a schedule can write, in a world
+-- of so many nodes.
 abbrev pub Always : (World → Beside → Type 0) → Type 0
 Always P =
     (masters page_stores replicas : ℕ) (steps : List Step)
-    → BringAll (begin masters page_stores replicas) steps
+    → AreSteps steps
     → P (run (begin masters page_stores replicas) steps) (after_steps nothing (begin masters page_stores replicas) steps)
 
 -- ---- what follows
@@ -68,13 +64,13 @@ ListsAreFronts w b = (store writer : ℕ) → IsFront (log_of (log_kept w store)
 abbrev pub ListsStay : Type 0
 ListsStay =
     (w : World) (b : Beside) (steps : List Step) (store writer : ℕ)
-    → BringAll w steps
-    → LogsHold w b
+    → AreSteps steps
+    → Holds w b
     → LogGoes (log_of (log_kept w store) writer) (log_of (log_kept (run w steps) store) writer)
 
 -- What stands of a writer's groups never falls, at a close neither.
 abbrev pub NeverFalls : Type 0
-NeverFalls = (w : World) (b : Beside) (steps : List Step) (writer : ℕ) → BringAll w steps → LogsHold w b → hard w b writer ≤ hard (run w steps) (after_steps b w steps) writer
+NeverFalls = (w : World) (b : Beside) (steps : List Step) (writer : ℕ) → AreSteps steps → Holds w b → hard w b writer ≤ hard (run w steps) (after_steps b w steps) writer
 
 -- Where a log ends it has all that its master knew to be durable, and the log store of the close is sealed there.
 abbrev pub EndsKeepDurable : World → Beside → Type 0
@@ -91,6 +87,10 @@ DurableIsHeld w b = (store writer : ℕ) → IsOneOfThree store → durable_by (
 abbrev pub WritersDiffer : World → Beside → Type 0
 WritersDiffer w b =
     (v u : ℕ) (e f : WriterEntry) → at (locks_kept w).writers v ≡ Some e → at (locks_kept w).writers u ≡ Some f → e.master ≡ f.master → e.boot ≡ f.boot → v ≡ u
+
+-- Each message that was ever sent can be spelled by the format of messages, with its groups.
+abbrev pub SentAreSpelled : World → Beside → Type 0
+SentAreSpelled w b = AllCanBeSpelled w
 
 -- Groups that were served are the writer's own, one after another from a number on, and stand for ever: once the log has
 -- an end they are within it.

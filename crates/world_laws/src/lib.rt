@@ -8,4 +8,5 @@ pub mod locks;
 pub mod masters;
 pub mod messages;
 pub mod runs;
+pub mod spelled;
 pub mod stores;

@@ -1,12 +1,11 @@
 //! What holds of every run of the world, whatever its steps are.
 //!
 //! The steps are a list of any length: deliveries of any message that was ever sent, any number of times and in any order,
-//! commands, ticks, stops, starts and failing disks. What comes to a master is taken to be what the format of messages can
-//! spell (`BringAll`).
-ghost use Rattle.world_laws.specs.Invariant.{LogsHold};
-ghost use Rattle.world_laws.specs.Runs.{AllTell, Always, DurableIsHeld, EndsKeepDurable, ListsAreFronts, ListsStay, NeverFalls, RunKeeps, StepHolds, WritersDiffer};
+//! commands, ticks, stops, starts and failing disks. The steps are ones that a schedule can write: a page is asked for at a
+//! stamp up to 2^63 - 1 (`IsStep`).
+ghost use Rattle.world_laws.specs.Runs.{AllTell, Always, DurableIsHeld, EndsKeepDurable, Holds, ListsAreFronts, ListsStay, NeverFalls, RunKeeps, SentAreSpelled, StepHolds, WritersDiffer};
 
-use crate::{apart, begin, locks, masters, stores};
+use crate::{apart, begin, locks, masters, spelled, stores};
 use lock_model::laws;
 use store_model::log_laws;
 
@@ -23,6 +22,9 @@ pub fn a_step_keeps_it()
     masters::a_delivery_to_a_master_keeps_it();
     masters::a_command_keeps_it();
     masters::a_tick_of_a_master_keeps_it();
+    spelled::each_step_keeps_it_spelled();
+    spelled::what_is_sent_can_be_spelled();
+    spelled::what_can_be_spelled_brings_it();
     log_laws::facts_of_messages_stay();
     log_laws::going_stands_still();
     log_laws::longer_logs_have_it();
@@ -46,10 +48,21 @@ pub fn a_run_keeps_it()
 
 /// So it holds after every list of steps from the beginning.
 pub fn it_always_holds()
-    ensures { Always LogsHold }
+    ensures { Always Holds }
 {
     a_run_keeps_it();
     begin::it_holds_at_the_beginning();
+    spelled::it_begins_spelled();
+}
+
+/// Each message that was ever sent can be spelled by the format of messages, as far as nodes take stamps and vectors from it:
+/// its stamp is at most 2^63 - 1, its vectors ascend by writers from 1 on, without a stamp of 0 or above 2^63 - 1, and so do
+/// those of its groups, whose stamps are up to there too. Refused is whatever the laws of a step refuse.
+pub fn what_was_sent_can_be_spelled()
+    ensures { Always SentAreSpelled }
+{
+    it_always_holds();
+    spelled::what_is_sent_can_be_spelled();
 }
 
 /// A sealed list of a log store never grows nor changes, and no list loses a group, over stops, starts and failing disks.

@@ -20,4 +20,7 @@ returns c = step_holds (record {
   master_delivery = c.a_delivery_to_a_master_keeps_it.ensures;
   command = c.a_command_keeps_it.ensures;
   master_tick = c.a_tick_of_a_master_keeps_it.ensures;
+  spells = c.each_step_keeps_it_spelled.ensures;
+  sent = c.what_is_sent_can_be_spelled.ensures;
+  brings = c.what_can_be_spelled_brings_it.ensures;
 })

@@ -1,0 +1,6 @@
+mod VectorLemmas
+mod LockLemmas
+mod GroupLemmas
+mod WorkLemmas
+mod MasterLemmas
+mod StoreLemmas
