@@ -172,11 +172,6 @@ pub record IsTable (slab : Slab Node) (pages : FinMap nat_cmp Head) (txns : FinM
 abbrev pub Reorders : FinMap nat_cmp (List ℕ) → FinMap nat_cmp (List ℕ) → ℕ → List ℕ → Type 0
 Reorders old new page order = (new ≡ map.insert old page order) ⊎ (new ≡ map.remove old page)
 
--- The places of an order that may not be kept.
-abbrev pub places_in : Option (List ℕ) → List ℕ
-places_in None = []
-places_in (Some order) = order
-
 -- What is kept in place of a head.
 abbrev pub kept : {K : Type 0} {R : K → K → Ordering} → FinMap R Head → K → Option Head → FinMap R Head
 kept heads k None = map.remove heads k

@@ -11,7 +11,7 @@ ghost use Rattle.lock_table.specs.Putting.{HasPlace, IsReady, Grows, Stays, Have
 ghost use Rattle.lock_table.specs.Moving.{to_page, Moves, HaveMoved};
 ghost use Rattle.lock_table.specs.Inside.{foreign_in, other_in, least, head_of, IsLinked, Entry, Stand, IsList, tag_in, tag_at, link_at, head_in, kept, shorter, gap_of, upto, from, on, Lacks, IsOpen, IsSame, is_tag, at_place, unlinked, joined};
 
-use crate::heads::{Head, PageHeads, set_txn};
+use crate::heads::{Head, PageHeads, TxnHeads};
 use crate::node::{Link, Node, Side, rejoin, settle};
 use crate::orders::PageOrders;
 use crate::seek::{compare, enter, gap_in, strike};
@@ -19,14 +19,14 @@ use slab::Slab;
 use std::alloc::Global;
 use std::marker::Brand;
 use std::sync::ledger::{Blank, Ledger};
-use tm_base::{Key, Mem, NoMemory, Page, Steps, Tag, Txn, TxnMap, Writer};
+use tm_base::{Key, Mem, NoMemory, Page, Steps, Tag, Txn, Writer};
 
 /// All tags, each a node of the slab, which stands in the list of its page and in that of its transaction.
 #[derive(Drop)]
 pub(crate) struct Nodes {
     slab: Slab<Node>,
     pages: PageHeads,
-    txns: TxnMap<Head>,
+    txns: TxnHeads,
     orders: PageOrders,
 }
 
@@ -64,15 +64,13 @@ fn shorten_page(pages: &mut PageHeads, page: u32, link: Link)
 }
 
 /// A transaction's list has lost a node whose links were these.
-fn shorten_txn(txns: &mut TxnMap<Head>, txn: Txn, link: Link)
+fn shorten_txn(txns: &mut TxnHeads, txn: Txn, link: Link)
     ensures { txns.new ≡ kept txns.old txn (shorter (head_in (map.get txns.old txn)) link) }
 {
-    let head = or_empty(txns.get(&txn).copied());
+    let head = or_empty(txns.get(txn));
     match head.without(link) {
-        Some(head) => set_txn(txns, txn, head),
-        None => {
-            txns.remove(&txn);
-        }
+        Some(head) => txns.set(txn, head),
+        None => txns.remove(txn),
     }
 }
 
@@ -146,7 +144,7 @@ impl Nodes {
         Nodes {
             slab: Slab::new(alloc),
             pages: PageHeads::new(alloc),
-            txns: TxnMap::new(alloc),
+            txns: TxnHeads::new(alloc),
             orders: PageOrders::new(alloc),
         }
     }
@@ -169,7 +167,7 @@ impl Nodes {
     pub(crate) fn first_of(&self, txn: Txn) -> Option<usize>
         ensures { result ≡ (head_in (map.get self.now.txns txn)).first }
     {
-        or_empty(self.txns.get(&txn).copied()).first
+        or_empty(self.txns.get(txn)).first
     }
 
     /// Where a tag has its place in the list of its page: in front of the first one that isn't below it.
@@ -241,13 +239,13 @@ impl Nodes {
     {
         let before = self.pages.get(page.0);
         let page_head = or_empty(before);
-        let txn_head = or_empty(self.txns.get(&txn).copied());
+        let txn_head = or_empty(self.txns.get(txn));
         if page_head.count > MOST || txn_head.count > MOST {
             return Err(NoMemory);
         }
         self.slab.reserve(1)?;
         self.pages.put(page.0, page_head)?;
-        let Ok(_) = self.txns.insert(txn, txn_head) else {
+        let Ok(_) = self.txns.put(txn, txn_head) else {
             if let None = before {
                 self.pages.remove(page.0);
             }
@@ -321,7 +319,7 @@ impl Nodes {
             return;
         };
         let (page, txn, was_on, was_of) = (node.page, node.tag.txn, node.on_page, node.of_txn);
-        let Some(txn_head) = self.txns.get(&txn).copied() else {
+        let Some(txn_head) = self.txns.get(txn) else {
             return;
         };
         self.unlink(page, was_on, was_of);
@@ -331,7 +329,7 @@ impl Nodes {
         settle(&mut self.slab, key, to, on_page, of_txn);
         enter(&mut self.orders, &self.slab, key, on_page);
         self.join(key, to, on_page, of_txn);
-        set_txn(&mut self.txns, txn, rest.with(key, of_txn));
+        self.txns.set(txn, rest.with(key, of_txn));
     }
 
     /// Takes out a node that was to stand where one stands already: tags that are alike are one. No tag is lost by
@@ -419,7 +417,7 @@ impl Nodes {
         ensures txns { (x : Txn) → Grows (map.get self.old.txns x) (map.get self.new.txns x) }
     {
         let txn = tag.txn;
-        let txn_head = or_empty(self.txns.get(&txn).copied());
+        let txn_head = or_empty(self.txns.get(txn));
         let of_txn = gap(&self.slab, Side::Txn, txn_head, page, &tag.key, txn);
         let key = self.slab.insert_reserved(Node {
             page,
@@ -429,7 +427,7 @@ impl Nodes {
         });
         enter(&mut self.orders, &self.slab, key, on_page);
         self.join(key, page, on_page, of_txn);
-        set_txn(&mut self.txns, txn, txn_head.with(key, of_txn));
+        self.txns.set(txn, txn_head.with(key, of_txn));
     }
 
     /// Puts a tag into its place on a page, for which there is room, unless it is there. It takes no memory.
@@ -464,11 +462,11 @@ impl Nodes {
         ensures same { (x : Txn) → Stays (map.get self.old.txns x) (map.get self.new.txns x) }
         ensures ok { OnOk result (HasPlace more (map.get self.new.txns txn)) }
     {
-        let head = or_empty(self.txns.get(&txn).copied());
+        let head = or_empty(self.txns.get(txn));
         if head.count > usize::MAX - more {
             return Err(NoMemory);
         }
-        let Ok(_) = self.txns.insert(txn, head) else {
+        let Ok(_) = self.txns.put(txn, head) else {
             return Err(NoMemory);
         };
         Ok(())

@@ -1,12 +1,12 @@
 //! Where the nodes of pages are, for a search by halving.
-ghost use Rattle.std.specs.Prelude.{◌≡◌, ◌≤◌, ◌<◌, ℕ, List, ◌∷◌, [], Some, None, length, OnOk, OnErr, IfOk, insert, remove};
+ghost use Rattle.std.specs.Prelude.{◌≡◌, ◌≤◌, ◌<◌, ℕ, List, ◌∷◌, [], Some, None, length, OnOk, OnErr, IfOk, insert, remove, nat_le, ◌||◌};
 ghost use Rattle.std.specs.Option.{option_copied};
 ghost use Rattle.std.specs.FinMap.{empty};
 ghost use Rattle.std.specs.FinMap as map;
-ghost use Rattle.lock_table.specs.Inside.{places_in, Reorders};
+ghost use Rattle.lock_table.specs.Inside.{Reorders};
 
 use std::alloc::Global;
-use std::collections::BTreeMap;
+use std::collections::HashMap;
 use std::marker::Model;
 use tm_base::Mem;
 
@@ -54,6 +54,13 @@ impl Order {
         Ok(())
     }
 
+    /// Whether it isn't kept without the place behind the first `at`: that is its last one, or isn't there.
+    fn is_done(&self, at: usize) -> bool
+        ensures { result ≡ (nat_le (length self.now) 1 || nat_le (length self.now) at) }
+    {
+        self.places.len() <= 1 || at >= self.places.len()
+    }
+
     /// Takes out the place behind the first `at`.
     fn remove(&mut self, at: usize)
         requires { at < length self.old }
@@ -63,11 +70,11 @@ impl Order {
     }
 }
 
-/// The orders of pages. That of a page may be missing, where its memory was wanting: then the page's list is walked.
+/// The orders of pages, by hash. That of a page may be missing, where its memory was wanting: then the page's list is walked.
 /// So no call fails for want of an order. Contracts see a finite map.
 #[derive(Drop)]
 pub(crate) struct PageOrders {
-    orders: BTreeMap<u32, Order>,
+    orders: HashMap<u32, Order>,
     alloc: Global,
 }
 
@@ -75,14 +82,13 @@ impl Model for PageOrders {
     ghost use Rattle.std.specs.Ordering.{nat_cmp};
     ghost use Rattle.std.specs.Prelude.{List, ℕ};
     ghost use Rattle.std.specs.Coded.{coded_ℕ, coded_list};
-    ghost use Rattle.std.specs.FinMap.{FinMap, code};
-    ghost use Rattle.tm_data.specs.Maps.{as_map};
+    ghost use Rattle.std.specs.FinMap.{FinMap, code, from_entries};
 
     ghost Value = { FinMap nat_cmp (List ℕ) };
 
     ghost coded = { code coded_ℕ (coded_list coded_ℕ) };
 
-    ghost view = { λ m. as_map m.orders };
+    ghost view = { λ m. from_entries m.orders.entries };
 }
 
 impl PageOrders {
@@ -91,7 +97,7 @@ impl PageOrders {
         ensures { result ≡ empty }
     {
         PageOrders {
-            orders: BTreeMap::new(alloc),
+            orders: HashMap::new(alloc),
             alloc,
         }
     }
@@ -101,16 +107,6 @@ impl PageOrders {
         ensures { option_copied result ≡ map.get self.now page }
     {
         self.orders.get(&page)
-    }
-
-    /// How many places the order of a page has.
-    fn len(&self, page: u32) -> usize
-        ensures { result ≡ length (places_in (map.get self.now page)) }
-    {
-        match self.orders.get(&page) {
-            Some(order) => order.as_slice().len(),
-            None => 0,
-        }
     }
 
     /// Drops the order of a page.
@@ -151,14 +147,13 @@ impl PageOrders {
     pub(crate) fn remove(&mut self, page: u32, at: usize)
         ensures { (order : List ℕ) → map.get self.old page ≡ Some order → at < length order → Reorders self.old self.new page (remove order at) }
     {
-        let len = self.len(page);
-        if len <= 1 || at >= len {
-            self.forget(page);
-            return;
-        }
         let Some(order) = self.orders.get_mut(&page) else {
             return;
         };
+        if order.is_done(at) {
+            self.forget(page);
+            return;
+        }
         order.remove(at);
     }
 }

@@ -34,13 +34,13 @@ not_none : (o : Option Head) → IsSome o → o ≡ None → ⊥
 not_none None some none = absurd (cc (some))
 not_none (Some h) some none = absurd (cc (none))
 
-pub returns-in_default-copied-clause-moved : goal.returns-in_default-copied-clause-moved
-returns-in_default-copied-clause-moved c = λ xs ys t l at lacks.
+pub returns-in_default-get-clause-moved : goal.returns-in_default-get-clause-moved
+returns-in_default-get-clause-moved c = λ xs ys t l at lacks.
     let s = c.args.self.now in
     let n : Node = c.in-Some.node.now in
     let same : t ≡ tag_in n = tag_there s.slab s.pages s.txns s.orders n c.args.key t xs ys (sym c.in-Some.ensures) l in
     let some : IsSome (map.get s.txns n.tag.txn) = subst (λ (z : PageTag). IsSome (map.get s.txns z.txn)) same (head_there s c.args.key t xs ys l) in
-    absurd (not_none (map.get s.txns n.tag.txn) some (sym c.get-2.ensures ∙ (sym c.copied.ensures ∙ c.in_default-copied.is)))
+    absurd (not_none (map.get s.txns n.tag.txn) some (sym c.in_default-get.ensures))
 
 -- the page's head is not the one that the node has left
 other_head : (s u : Nodes) (n : Node) (key to : ℕ) → slab.get s.slab key ≡ Some n → ((t : PageTag) → tag_at s.slab key ≡ Some t → to ≢ t.page) → u ≡ unlinked s n.page.0 n.on_page n.of_txn → map.get u.pages to ≡ map.get s.pages to
@@ -102,7 +102,7 @@ returns-clause-moved c = λ xs ys t l at lacks.
     let l' : Stand s (xs ++ (key, tag_in n) ∷ ys) = subst (λ (z : PageTag). Stand s (xs ++ (key, z) ∷ ys)) same l in
     let at' = subst (λ (z : PageTag). a ≡ gap_of (upto (to_page to.0 z) (filter (on to.0) (xs ++ ys))) (from (to_page to.0 z) (filter (on to.0) (xs ++ ys)))) same at in
     let lacks' = subst (λ (z : PageTag). Lacks (to_page to.0 z) (xs ++ ys)) same lacks in
-    let head_is : c.in-Some-copied.txn_head ≡ head_in (map.get s.txns x) = ap head_in (sym c.in-Some-copied.is ∙ (c.copied.ensures ∙ c.get-2.ensures)) in
+    let head_is : c.in-Some-get.txn_head ≡ head_in (map.get s.txns x) = ap head_in c.in-Some-get.ensures in
     let rest_is : c.or_empty-rest.result ≡ rest s n key c.unlink.new.self c.unlink.ensures = c.or_empty-rest.ensures ∙ ap head_in (c.without.ensures ∙ ap (λ (h : Head). shorter h n.of_txn) head_is) in
     let at_txn = gap_is s n key c.unlink.new.self c.unlink.ensures xs ys to.0 c.or_empty-rest.result b node l' rest_is c.gap_for-of_txn.ensures in
     let u = c.unlink.new.self in
@@ -120,8 +120,8 @@ returns-clause-moved c = λ xs ys t l at lacks.
     c.join.ensures
     ∙ (ap (λ (w : Slab Node). joined (record { slab = w; pages = c.unlink.new.self.pages; txns = c.unlink.new.self.txns; orders = c.enter.new.orders }) key to.0 a b) c.settle.ensures
     ∙ ap (λ (z : Nodes). joined (record { slab = changed z.slab key (settled to a b) (slab.get z.slab key); pages = z.pages; txns = z.txns; orders = c.enter.new.orders }) key to.0 a b) c.unlink.ensures) in
-    let txns_is : c.set_txn.new.heads ≡ insert s.txns x (head_with (rest s n key c.unlink.new.self c.unlink.ensures) key b) =
-    c.set_txn.ensures ∙ (ap (λ (z : Nodes). insert z.txns x c.with.result) after_is ∙ ap (λ (h : Head). insert s.txns x h) (c.with.ensures ∙ ap (λ (h : Head). head_with h key b) rest_is)) in
-    subst (λ (z : PageTag). Stand (record { slab = c.join.new.self.slab; pages = c.join.new.self.pages; txns = c.set_txn.new.heads; orders = c.join.new.self.orders }) (upto (to_page to.0 z) (xs ++ ys) ++ (key, to_page to.0 z) ∷ from (to_page to.0 z) (xs ++ ys))) (sym same)
+    let txns_is : c.set.new.self ≡ insert s.txns x (head_with (rest s n key c.unlink.new.self c.unlink.ensures) key b) =
+    c.set.ensures ∙ (ap (λ (z : Nodes). insert z.txns x c.with.result) after_is ∙ ap (λ (h : Head). insert s.txns x h) (c.with.ensures ∙ ap (λ (h : Head). head_with h key b) rest_is)) in
+    subst (λ (z : PageTag). Stand (record { slab = c.join.new.self.slab; pages = c.join.new.self.pages; txns = c.set.new.self; orders = c.join.new.self.orders }) (upto (to_page to.0 z) (xs ++ ys) ++ (key, to_page to.0 z) ∷ from (to_page to.0 z) (xs ++ ys))) (sym same)
     (subst (λ (m : FinMap txn_cmp Head). IsTable c.join.new.self.slab c.join.new.self.pages m c.join.new.self.orders (upto (to_page to.0 (tag_in n)) (xs ++ ys) ++ (key, to_page to.0 (tag_in n)) ∷ from (to_page to.0 (tag_in n)) (xs ++ ys))) (sym txns_is)
     (subst (λ (z : Nodes). IsTable z.slab z.pages (insert s.txns x (head_with (rest s n key c.unlink.new.self c.unlink.ensures) key b)) z.orders (upto (to_page to.0 (tag_in n)) (xs ++ ys) ++ (key, to_page to.0 (tag_in n)) ∷ from (to_page to.0 (tag_in n)) (xs ++ ys))) (sym after_is) done))
