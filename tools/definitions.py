@@ -193,6 +193,7 @@ LIBRARY = {
     "false": False,
     "zero": 0,
     "None": NONE,
+    "tt": (),
     "not": strict(1, lambda a: not a),
     "nat_eq": strict(2, lambda a, b: a == b),
     "nat_lt": strict(2, lambda a, b: a < b),
@@ -232,17 +233,19 @@ MAPS = {
     "insert": strict(3, lambda m, k, v: m.with_entry(k, v)),
     "remove": strict(2, lambda m, k: m.without(k)),
     "entries": strict(1, lambda m: m.entries()),
+    "keys": strict(1, lambda m: tuple(e[0] for e in m.entries())),
+    "from_entries": strict(1, lambda es: Finite(dict(reversed(es)))),
     "contains_key": strict(2, lambda m, k: k in m.items),
     "retain_keys": strict(2, lambda m, f: m.where(lambda k: call(f, k))),
 }
 SETS = {
     "empty": Finite({}),
     "contains": strict(2, lambda s, k: k in s.items),
-    "insert": strict(2, lambda s, k: s.with_entry(k, None)),
+    "insert": strict(2, lambda s, k: s.with_entry(k, ())),
     "remove": strict(2, lambda s, k: s.without(k)),
     "retain": strict(2, lambda s, f: s.where(lambda k: call(f, k))),
     "items": strict(1, lambda s: tuple(e[0] for e in s.entries())),
-    "from_list": strict(1, lambda xs: Finite({x: None for x in xs})),
+    "from_list": strict(1, lambda xs: Finite({x: () for x in xs})),
 }
 
 

@@ -21,7 +21,7 @@ tm_base/GroupSizes key_fences/Fences page_model/Effects page_model/Versions page
 page_model/Pool page_model/Tiling vs_clock/State log_writer/Acks log_writer/Log lease_desk/Desk lock_model/State
 lock_model/Step lock_model/Runs store_model/LogState store_model/LogStep store_model/LogStarts store_model/PageState
 store_model/PageStep store_model/PageWhole store_model/PageReads replica_model/Order replica_model/State
-replica_model/Step replica_model/Reads master_model/Tags master_model/State master_model/Fates master_model/Paths
+replica_model/Step replica_model/Reads lock_table/Tags master_model/State master_model/Fates master_model/Paths
 master_model/Logging master_model/Reads master_model/Writes master_model/Ends master_model/Leases master_model/Acks
 master_model/Recovery master_model/Step key_index/Touched key_model/State key_model/Steps key_model/After key_model/Events
 key_model/Causes key_model/Cuts history_model/History world_model/Disk world_model/World world_model/Past

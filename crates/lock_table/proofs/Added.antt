@@ -1,10 +1,10 @@
 -- The table with one more node.
 use Rattle.std.proofs.Common.{◌≡◌, ◌≢◌, ℕ, Bool, true, false, cond, List, [], ◌∷◌, ◌++◌, refl, ap, sym, subst, ◌∙◌, arith}
-use Rattle.std.specs.Prelude.{nat_eq, filter, IsSome, IfSome}
+use Rattle.std.specs.Prelude.{nat_eq, filter, IsSome}
 use Rattle.std.specs.List.{AllByRecursion}
-use Rattle.std.specs.Ordering.{nat_cmp, eq_by_cmp}
+use Rattle.std.specs.Ordering.{nat_cmp}
 use Rattle.std.specs.Cmp.{nat_cmp_total, unsigned_tied}
-use Rattle.std.specs.FinMap.{FinMap, get, insert, remove, get-insert, get-remove}
+use Rattle.std.specs.FinMap.{FinMap, get, insert, remove, get-insert}
 use Rattle.std.specs.declared.cmp.Ordering.TheVariants.{Less}
 use Rattle.std.specs.declared.option.Option.{Option}
 use Rattle.std.specs.declared.option.Option.TheVariants.{None, Some}
@@ -13,13 +13,14 @@ use Rattle.slab.specs.Slab as slab
 use Rattle.slab.specs.Slab.{Slab, Updates}
 use Rattle.tm_data.specs.declared.transaction.Txn.{Txn}
 use Rattle.tm_data.specs.Orders.{txn_cmp, txn_cmp-total}
+use Rattle.lock_table.specs.declared.orders.Orders.{Orders}
 use Rattle.lock_table.specs.declared.node.Link.{Link}
 use Rattle.lock_table.specs.declared.node.Node.{Node}
 use Rattle.lock_table.specs.declared.node.Side.TheVariants as side
 use Rattle.lock_table.specs.declared.heads.Head.{Head}
 use Rattle.lock_table.specs.declared.nodes.Nodes.{Nodes}
 use Rattle.lock_table.specs.Tags.{PageTag, is_on, same_txn, tag_cmp}
-use Rattle.lock_table.specs.Inside.{Entry, IsSame, Lacks, gap_of, upto, from, head_of, last_of, Differ, AreApart, IsIn, IsList, IsTable, AreOrdered, places, on, of, tag_in, head_in, head_with, kept, rejoined, both_to, tag_at, link_at, tag_of_node, link_of_node}
+use Rattle.lock_table.specs.Inside.{Entry, IsSame, Lacks, gap_of, upto, from, head_of, last_of, Differ, AreApart, IsIn, IsList, IsTable, AreOrdered, on, of, tag_in, head_in, head_with, kept, rejoined, both_to, tag_at, link_at, tag_of_node, link_of_node}
 use Rattle.lock_table.proofs.Writes.{turned_at, rejoined_tag, rejoined_link, rejoined_other}
 use Rattle.lock_table.proofs.Segments.{Turns, turned_clear, not_last, not_head, flip, all_join}
 use Rattle.lock_table.proofs.Places.{upto_from, below, above, upto_filter, from_filter}
@@ -52,7 +53,7 @@ module _ (f g : ℕ → Option Link) (u : PageTag → Bool) (key : ℕ) (t : Pag
       subst (IsList g h) (sym (mid_no v (key, t) xs ys (not_in f g u key t xs ys v x is (v t) refl)))
       (away f g u key t xs ys at v h (both_to key) x here d (subst (λ (k : Link). Turns f g key k (both_to key)) gap w) l)
 
-module _ (s t : Slab Node) (pages : FinMap nat_cmp Head) (txns : FinMap txn_cmp Head) (orders orders' : FinMap nat_cmp (List ℕ)) (n : Node) (key : ℕ) (xs ys : List Entry) where
+module _ (s t : Slab Node) (pages : FinMap nat_cmp Head) (txns : FinMap txn_cmp Head) (orders orders' : Orders) (n : Node) (key : ℕ) (xs ys : List Entry) where
   abbrev page : ℕ
   page = n.page.0
 
@@ -113,7 +114,7 @@ clear_gap key xs ys d =
     let p = all_parts (λ e. e.0 ≢ key) xs ys d in
     turned_clear (gap_of xs ys) (both_to key) key (Some (gap_of xs ys)) (not_last None key xs refl (flip key xs p.0)) (not_head key ys p.1)
 
-pub added_by : (s u v t : Slab Node) (pages pages' : FinMap nat_cmp Head) (txns txns' : FinMap txn_cmp Head) (orders orders' : FinMap nat_cmp (List ℕ)) (n : Node) (key : ℕ) (es : List Entry)
+pub added_by : (s u v t : Slab Node) (pages pages' : FinMap nat_cmp Head) (txns txns' : FinMap txn_cmp Head) (orders orders' : Orders) (n : Node) (key : ℕ) (es : List Entry)
     → slab.get s key ≡ None → Updates s u key (Some n) → v ≡ rejoined side.Page u n.on_page (both_to key) → t ≡ rejoined side.Txn v n.of_txn (both_to key)
     → pages' ≡ kept pages n.page.0 (Some (head_with (head_in (get pages n.page.0)) key n.on_page)) → txns' ≡ kept txns n.tag.txn (Some (head_with (head_in (get txns n.tag.txn)) key n.of_txn))
     → n.on_page ≡ gap_of (upto (tag_in n) (filter (on n.page.0) es)) (from (tag_in n) (filter (on n.page.0) es))
@@ -153,7 +154,7 @@ added_by s u v t pages pages' txns txns' orders orders' n key es absent up v_is 
     (subst (λ (m : FinMap txn_cmp Head). IsTable r (kept pages n.page.0 (Some (head_with (head_in (get pages n.page.0)) key n.on_page))) m orders' (xs ++ (key, tag_in n) ∷ ys)) (sym txns_is) done))
 
 -- the same lists under heads that say the same
-pub reheaded : (s : Slab Node) (room : ℕ) (pages pages' : FinMap nat_cmp Head) (txns txns' : FinMap txn_cmp Head) (orders : FinMap nat_cmp (List ℕ)) (es : List Entry) → ((p : ℕ) → head_in (get pages' p) ≡ head_in (get pages p)) → ((x : Txn) → head_in (get txns' x) ≡ head_in (get txns x))
+pub reheaded : (s : Slab Node) (room : ℕ) (pages pages' : FinMap nat_cmp Head) (txns txns' : FinMap txn_cmp Head) (orders : Orders) (es : List Entry) → ((p : ℕ) → head_in (get pages' p) ≡ head_in (get pages p)) → ((x : Txn) → head_in (get txns' x) ≡ head_in (get txns x))
     → IsTable s pages txns orders es → IsTable (record s { capacity = room }) pages' txns' orders es
 reheaded s room pages pages' txns txns' orders es hp ht l =
     record {
@@ -209,16 +210,8 @@ txn_there m m' k h made = some_at h (get m' k) (ap (λ (z : FinMap txn_cmp Head)
 
 -- ---- an order that is kept no more
 
-less_ordered : (old new : FinMap nat_cmp (List ℕ)) (page : ℕ) (es : List Entry) → new ≡ remove old page → AreOrdered old es → AreOrdered new es
-less_ordered old new page es is h p =
-    subst (λ (o : Option (List ℕ)). IfSome o (λ x. x ≡ places (filter (on p) es))) (sym (ap (λ (m : FinMap nat_cmp (List ℕ)). get m p) is ∙ get-remove nat_cmp_total old page p)) (by_page (eq_by_cmp nat_cmp p page))
-  where
-    by_page : (b : Bool) → IfSome (cond b None (get old p)) (λ x. x ≡ places (filter (on p) es))
-    by_page true = tt
-    by_page false = h p
-
-pub unordered : (old : Nodes) (orders' : FinMap nat_cmp (List ℕ)) (page : ℕ) → orders' ≡ remove old.orders page → IsSame old (record { slab = old.slab; pages = old.pages; txns = old.txns; orders = orders' })
-unordered old orders' page is =
+pub unordered : (old : Nodes) (orders' : Orders) → ((es : List Entry) → AreOrdered old.orders es → AreOrdered orders' es) → IsSame old (record { slab = old.slab; pages = old.pages; txns = old.txns; orders = orders' })
+unordered old orders' less =
     record {
       slots = refl;
       stand = λ es l.
@@ -229,6 +222,6 @@ unordered old orders' page is =
             all = l.all;
             page = l.page;
             txn = l.txn;
-            order = less_ordered old.orders orders' page es is l.order;
+            order = less es l.order;
           };
     }

@@ -7,10 +7,8 @@ use Rattle.std.specs.declared.option.Option.TheVariants.{Some}
 use Rattle.std.proofs.lemmas.List.Elements.{filter-append}
 use Rattle.lock_table.specs.Tags.{PageTag}
 use Rattle.lock_table.specs.Inside.{Entry, Differ, AreApart}
+pub use Rattle.lock_table.specs.Inside.{by}
 use Rattle.lock_table.proofs.Segments.{Across}
-
-abbrev pub by : (PageTag → Bool) → Entry → Bool
-by u e = u e.1
 
 pub mid_yes : (u : PageTag → Bool) (e : Entry) (xs ys : List Entry) → u e.1 ≡ true → filter (by u) (xs ++ e ∷ ys) ≡ filter (by u) xs ++ e ∷ filter (by u) ys
 mid_yes u e xs ys is = filter-append (by u) xs (e ∷ ys) ∙ ap (λ (b : Bool). filter (by u) xs ++ cond b (e ∷ filter (by u) ys) (filter (by u) ys)) is

@@ -4,9 +4,8 @@ use Rattle.std.specs.Prelude.{filter, nat_eq, nat_lt, IfSome, IsSome, is_some, s
 use Rattle.std.specs.Option.{option_copied}
 use Rattle.std.specs.Borrow.{Bor}
 use Rattle.std.specs.List.{AllByRecursion}
-use Rattle.std.specs.Ordering.{nat_cmp, is_lt, ordering_reverse}
-use Rattle.std.specs.Cmp.{nat_cmp_total, unsigned_tied}
-use Rattle.std.specs.FinMap.{FinMap, get, get-insert, get-remove}
+use Rattle.std.specs.Ordering.{is_lt, ordering_reverse}
+use Rattle.std.specs.Map.{lookup}
 use Rattle.std.specs.declared.cmp.Ordering.{Ordering}
 use Rattle.std.specs.declared.cmp.Ordering.TheVariants.{Less, Equal, Greater}
 use Rattle.std.proofs.lemmas.List.Elements.{filter-append}
@@ -14,9 +13,9 @@ use Rattle.std.specs.declared.option.Option.{Option}
 use Rattle.std.specs.declared.option.Option.TheVariants.{None, Some}
 use Rattle.std.proofs.lemmas.Bool.Decides.{nat_tests}
 use Rattle.lock_table.specs.declared.node.Link.{Link}
-use Rattle.lock_table.specs.Tags.{PageTag, tag_cmp, tag_cmp-total, is_on}
-use Rattle.lock_table.specs.Inside.{Entry, Ascend, AreOrdered, Reorders, places, on, gap_of, head_of, last_of, upto, from}
-use Rattle.lock_table.proofs.Filters.{by, mid_yes, mid_no, Here}
+use Rattle.lock_table.specs.Tags.{PageTag, tag_cmp, tag_cmp-total}
+use Rattle.lock_table.specs.Inside.{Entry, Ascend, IsOrder, KeepOrder, KeepsOthers, Becomes, Reorders, places, by, gap_of, head_of, last_of, upto, from}
+use Rattle.lock_table.proofs.Filters.{mid_yes, mid_no, Here}
 use Rattle.lock_table.proofs.Tables.{all_at}
 use Rattle.lock_table.proofs.Values.{ascend_filter}
 use Rattle.lock_table.proofs.Places.{upto_from, upto_filter, from_filter, none_below}
@@ -101,14 +100,6 @@ pub places_without : (e : Entry) (xs ys : List Entry) → remove (places (xs ++ 
 places_without e [] ys = refl
 places_without e (x ∷ xs) ys = ap (λ (zs : List ℕ). x.0 ∷ zs) (places_without e xs ys)
 
--- ---- the parts of a list on one page
-
-off : (t : PageTag) (q : ℕ) → nat_eq q t.page ≡ false → is_on q t ≡ false
-off t q is = grind (arith, nat_tests)
-
-pub elsewhere : (t : PageTag) (key : ℕ) (xs ys : List Entry) (q : ℕ) → nat_eq q t.page ≡ false → filter (on q) (xs ++ (key, t) ∷ ys) ≡ filter (on q) (xs ++ ys)
-elsewhere t key xs ys q is = mid_no (is_on q) (key, t) xs ys (off t q is)
-
 not_itself : (o : Ordering) → o ≡ ordering_reverse o → is_lt o ≡ false
 not_itself Less h = absurd (cc (h))
 not_itself Equal h = refl
@@ -123,58 +114,44 @@ before_it t key (x ∷ xs) ys a =
 
 -- ---- the orders after one has changed
 
-same_list : (o : Option (List ℕ)) (a b : List Entry) → b ≡ a → IfSome o (λ x. x ≡ places a) → IfSome o (λ x. x ≡ places b)
-same_list o a b is h = subst (λ (z : List Entry). IfSome o (λ x. x ≡ places z)) (sym is) h
+same_list : (o : Option (List ℕ)) (a b : List Entry) → b ≡ a → IsOrder o a → IsOrder o b
+same_list o a b is h = subst (λ (z : List Entry). IsOrder o z) (sym is) h
 
--- An order that isn't kept says nothing, and the others say the same.
-pub unkept : (orders : FinMap nat_cmp (List ℕ)) (page : ℕ) (es es' : List Entry) → get orders page ≡ None → ((q : ℕ) → nat_eq q page ≡ false → filter (on q) es' ≡ filter (on q) es) → AreOrdered orders es → AreOrdered orders es'
-unkept orders page es es' none same h p = go (nat_eq p page) refl
-  where
-    go : (b : Bool) → nat_eq p page ≡ b → IfSome (get orders p) (λ x. x ≡ places (filter (on p) es'))
-    go true is = let at : page ≡ p = grind (arith, nat_tests) in subst (λ (o : Option (List ℕ)). IfSome o (λ x. x ≡ places (filter (on p) es'))) (sym (ap (get orders) (sym at) ∙ none)) tt
-    go false is = same_list (get orders p) (filter (on p) es) (filter (on p) es') (same p is) (h p)
+-- An order that isn't kept says nothing.
+pub unkept : (o : Option (List ℕ)) (es : List Entry) → o ≡ None → IsOrder o es
+unkept o es none = subst (λ (z : Option (List ℕ)). IsOrder z es) (sym none) tt
 
-pub reordered : (old new : FinMap nat_cmp (List ℕ)) (page : ℕ) (order : List ℕ) (es es' : List Entry) → Reorders old new page order → order ≡ places (filter (on page) es')
-    → ((q : ℕ) → nat_eq q page ≡ false → filter (on q) es' ≡ filter (on q) es) → AreOrdered old es → AreOrdered new es'
-reordered old new page order es es' (inl is) here same h p =
-    subst (λ (o : Option (List ℕ)). IfSome o (λ x. x ≡ places (filter (on p) es')))
-    (sym (ap (λ (m : FinMap nat_cmp (List ℕ)). get m p) is ∙ (get-insert nat_cmp_total old page order p ∙ ap (λ (b : Bool). cond b (Some order) (get old p)) (unsigned_tied p page)))) (go (nat_eq p page) refl)
-  where
-    go : (b : Bool) → nat_eq p page ≡ b → IfSome (cond b (Some order) (get old p)) (λ x. x ≡ places (filter (on p) es'))
-    go true at = let one : page ≡ p = grind (arith, nat_tests) in here ∙ ap (λ (z : ℕ). places (filter (on z) es')) one
-    go false at = same_list (get old p) (filter (on p) es) (filter (on p) es') (same p at) (h p)
-reordered old new page order es es' (inr is) here same h p =
-    subst (λ (o : Option (List ℕ)). IfSome o (λ x. x ≡ places (filter (on p) es')))
-    (sym (ap (λ (m : FinMap nat_cmp (List ℕ)). get m p) is ∙ (get-remove nat_cmp_total old page p ∙ ap (λ (b : Bool). cond b None (get old p)) (unsigned_tied p page)))) (go (nat_eq p page) refl)
-  where
-    go : (b : Bool) → nat_eq p page ≡ b → IfSome (cond b None (get old p)) (λ x. x ≡ places (filter (on p) es'))
-    go true at = tt
-    go false at = same_list (get old p) (filter (on p) es) (filter (on p) es') (same p at) (h p)
+-- One that is kept is that of its list.
+pub order_of : (o : Option (List ℕ)) (order : List ℕ) (es : List Entry) → Some order ≡ o → IsOrder o es → order ≡ places es
+order_of o order es is h = subst (λ (z : Option (List ℕ)). IsOrder z es) (sym is) h
 
--- The order that is kept of a page is that of its list.
-pub order_of : (orders : FinMap nat_cmp (List ℕ)) (page : ℕ) (order : List ℕ) (es : List Entry) → Some order ≡ get orders page → AreOrdered orders es → order ≡ places (filter (on page) es)
-order_of orders page order es is h = subst (λ (o : Option (List ℕ)). IfSome o (λ x. x ≡ places (filter (on page) es))) (sym is) (h page)
+module _ {K : Type 0} (eq : K → K → Bool) where
+  pub reordered : (old new : List (K × List ℕ)) (key : K) (order : List ℕ) (es : List Entry) → Reorders eq old new key order → order ≡ places es → IsOrder (lookup (eq key) new) es
+  reordered old new key order es (inl b) is = subst (λ (z : Option (List ℕ)). IsOrder z es) (sym b.0) is
+  reordered old new key order es (inr b) is = subst (λ (z : Option (List ℕ)). IsOrder z es) (sym b.0) tt
 
--- ---- a list with one more on its page
+  pub others_stay : (old new : List (K × List ℕ)) (key : K) (order : List ℕ) → Reorders eq old new key order → KeepsOthers eq old new key
+  others_stay old new key order (inl b) = b.1
+  others_stay old new key order (inr b) = b.1
 
-on_itself' : (t : PageTag) → is_on t.page t ≡ true
-on_itself' t = grind (arith, nat_tests)
+  module _ (exact : (a b : K) → eq a b ≡ true → a ≡ b) (part : K → PageTag → Bool) where
+    -- The order under a key is that of its list, and the other lists are what they were.
+    pub all_ordered : (old new : List (K × List ℕ)) (key : K) (es es' : List Entry) → IsOrder (lookup (eq key) new) (filter (by (part key)) es') → KeepsOthers eq old new key
+        → ((k : K) → eq key k ≡ false → filter (by (part k)) es' ≡ filter (by (part k)) es) → KeepOrder eq part old es → KeepOrder eq part new es'
+    all_ordered old new key es es' here others same h k = go (eq key k) refl
+      where
+        go : (b : Bool) → eq key k ≡ b → IsOrder (lookup (eq k) new) (filter (by (part k)) es')
+        go true is = subst (λ (z : K). IsOrder (lookup (eq z) new) (filter (by (part z)) es')) (exact key k is) here
+        go false is = subst (λ (z : Option (List ℕ)). IsOrder z (filter (by (part k)) es')) (sym (others k is)) (same_list (lookup (eq k) old) (filter (by (part k)) es) (filter (by (part k)) es') (same k is) (h k))
 
-pub part_with : (t : PageTag) (key : ℕ) (es : List Entry) → Ascend es → filter (on t.page) (upto t es ++ (key, t) ∷ from t es) ≡ upto t (filter (on t.page) es) ++ (key, t) ∷ from t (filter (on t.page) es)
-part_with t key es a =
-    mid_yes (is_on t.page) (key, t) (upto t es) (from t es) (on_itself' t)
-    ∙ (ap (λ (z : List Entry). z ++ (key, t) ∷ filter (on t.page) (from t es)) (sym (upto_filter t (is_on t.page) es a)) ∙ ap (λ (z : List Entry). upto t (filter (on t.page) es) ++ (key, t) ∷ z) (sym (from_filter t (is_on t.page) es a)))
+    -- An order is kept no more.
+    pub less_ordered : (old new : List (K × List ℕ)) (key : K) (es : List Entry) → Becomes eq old new key None → KeepOrder eq part old es → KeepOrder eq part new es
+    less_ordered old new key es b h = all_ordered old new key es es (unkept (lookup (eq key) new) (filter (by (part key)) es) b.0) b.1 (λ k is. refl) h
 
-pub elsewhere_with : (t : PageTag) (key : ℕ) (es : List Entry) (q : ℕ) → nat_eq q t.page ≡ false → filter (on q) (upto t es ++ (key, t) ∷ from t es) ≡ filter (on q) es
-elsewhere_with t key es q is = elsewhere t key (upto t es) (from t es) q is ∙ ap (λ (z : List Entry). filter (on q) z) (sym (upto_from t es))
+pub same_page : (a b : ℕ) → nat_eq a b ≡ true → a ≡ b
+same_page a b is = grind (arith, nat_tests)
 
--- The place that comes in at the tag's place.
-pub order_with : (t : PageTag) (key at : ℕ) (order : List ℕ) (es : List Entry) → Ascend es → order ≡ places (filter (on t.page) es) → at ≡ length (upto t (filter (on t.page) es))
-    → insert order at key ≡ places (filter (on t.page) (upto t es ++ (key, t) ∷ from t es))
-order_with t key at order es a is at_is =
-    let fs : List Entry = filter (on t.page) es in
-    ap (λ (z : List ℕ). insert z at key) (is ∙ ap (λ (z : List Entry). places z) (upto_from t fs))
-    ∙ (ap (λ (k : ℕ). insert (places (upto t fs ++ from t fs)) k key) at_is ∙ (places_with (key, t) (upto t fs) (from t fs) ∙ ap (λ (z : List Entry). places z) (sym (part_with t key es a))))
+-- ---- a list with one more
 
 last_some : (k : ℕ) (xs : List Entry) → IsSome (last_of (Some k) xs)
 last_some k [] = refl
@@ -188,35 +165,47 @@ no_head : (ys : List Entry) → head_of ys None ≡ None → ys ≡ []
 no_head [] h = refl
 no_head (y ∷ ys) h = absurd (cc (h))
 
--- The first place of a page.
-pub order_one : (t : PageTag) (key : ℕ) (gap : Link) (es : List Entry) → Ascend es → gap ≡ gap_of (upto t (filter (on t.page) es)) (from t (filter (on t.page) es)) → gap.prev ≡ None → gap.next ≡ None
-    → key ∷ [] ≡ places (filter (on t.page) (upto t es ++ (key, t) ∷ from t es))
-order_one t key gap es a is prev next =
-    let fs : List Entry = filter (on t.page) es in
-    let xs : upto t fs ≡ [] = no_last (upto t fs) (sym (ap (λ (l : Link). l.prev) is) ∙ prev) in
-    let ys : from t fs ≡ [] = no_head (from t fs) (sym (ap (λ (l : Link). l.next) is) ∙ next) in
-    sym (ap (λ (z : List Entry). places z) (part_with t key es a) ∙ (ap (λ (z : List Entry). places (z ++ (key, t) ∷ from t fs)) xs ∙ ap (λ (z : List Entry). places ((key, t) ∷ z)) ys))
+pub elsewhere_with : (u : PageTag → Bool) (t : PageTag) (key : ℕ) (es : List Entry) → u t ≡ false → filter (by u) (upto t es ++ (key, t) ∷ from t es) ≡ filter (by u) es
+elsewhere_with u t key es is = mid_no u (key, t) (upto t es) (from t es) is ∙ ap (λ (z : List Entry). filter (by u) z) (sym (upto_from t es))
 
--- ---- a list with one less on its page
+module _ (u : PageTag → Bool) (t : PageTag) (yes : u t ≡ true) where
+  part_with : (key : ℕ) (es : List Entry) → Ascend es → filter (by u) (upto t es ++ (key, t) ∷ from t es) ≡ upto t (filter (by u) es) ++ (key, t) ∷ from t (filter (by u) es)
+  part_with key es a =
+      mid_yes u (key, t) (upto t es) (from t es) yes
+      ∙ (ap (λ (z : List Entry). z ++ (key, t) ∷ filter (by u) (from t es)) (sym (upto_filter t u es a)) ∙ ap (λ (z : List Entry). upto t (filter (by u) es) ++ (key, t) ∷ z) (sym (from_filter t u es a)))
 
-pub part_mid : (t : PageTag) (key : ℕ) (xs ys : List Entry) → filter (on t.page) (xs ++ (key, t) ∷ ys) ≡ filter (on t.page) xs ++ (key, t) ∷ filter (on t.page) ys
-part_mid t key xs ys = mid_yes (is_on t.page) (key, t) xs ys (on_itself' t)
+  -- The place that comes in at the tag's place.
+  pub order_with : (key at : ℕ) (order : List ℕ) (es : List Entry) → Ascend es → order ≡ places (filter (by u) es) → at ≡ length (upto t (filter (by u) es))
+      → insert order at key ≡ places (filter (by u) (upto t es ++ (key, t) ∷ from t es))
+  order_with key at order es a is at_is =
+      let fs : List Entry = filter (by u) es in
+      ap (λ (z : List ℕ). insert z at key) (is ∙ ap (λ (z : List Entry). places z) (upto_from t fs))
+      ∙ (ap (λ (k : ℕ). insert (places (upto t fs ++ from t fs)) k key) at_is ∙ (places_with (key, t) (upto t fs) (from t fs) ∙ ap (λ (z : List Entry). places z) (sym (part_with key es a))))
 
--- The place at the tag's place goes out.
-pub order_without : (t : PageTag) (key at : ℕ) (order : List ℕ) (xs ys : List Entry) → Ascend (xs ++ (key, t) ∷ ys) → order ≡ places (filter (on t.page) (xs ++ (key, t) ∷ ys))
-    → at ≡ length (upto t (filter (on t.page) (xs ++ (key, t) ∷ ys))) → (at < length order) × (remove order at ≡ places (filter (on t.page) (xs ++ ys)))
-order_without t key at order xs ys a is at_is =
-    let fx : List Entry = filter (on t.page) xs in
-    let fy : List Entry = filter (on t.page) ys in
-    let mid = part_mid t key xs ys in
-    let order_is : order ≡ places (fx ++ (key, t) ∷ fy) = is ∙ ap (λ (z : List Entry). places z) mid in
-    let place : at ≡ length fx =
-    at_is ∙ (ap (λ (z : List Entry). length (upto t z)) mid ∙ ap (λ (z : List Entry). length z) (before_it t key fx fy (subst Ascend mid (ascend_filter (is_on t.page) (xs ++ (key, t) ∷ ys) a)))) in
-    let long : length order ≡ length (fx ++ (key, t) ∷ fy) = ap (λ (z : List ℕ). length z) order_is ∙ length_places (fx ++ (key, t) ∷ fy) in
-    let parts = length-append fx ((key, t) ∷ fy) in (
-      omega (arith, place, long, parts),
-      ap (λ (z : List ℕ). remove z at) order_is ∙ (ap (λ (k : ℕ). remove (places (fx ++ (key, t) ∷ fy)) k) place ∙ (places_without (key, t) fx fy ∙ ap (λ (z : List Entry). places z) (sym (filter-append (by (is_on t.page)) xs ys)))),
-    )
+  -- The first place of a list.
+  pub order_one : (key : ℕ) (gap : Link) (es : List Entry) → Ascend es → gap ≡ gap_of (upto t (filter (by u) es)) (from t (filter (by u) es)) → gap.prev ≡ None → gap.next ≡ None
+      → key ∷ [] ≡ places (filter (by u) (upto t es ++ (key, t) ∷ from t es))
+  order_one key gap es a is prev next =
+      let fs : List Entry = filter (by u) es in
+      let xs : upto t fs ≡ [] = no_last (upto t fs) (sym (ap (λ (l : Link). l.prev) is) ∙ prev) in
+      let ys : from t fs ≡ [] = no_head (from t fs) (sym (ap (λ (l : Link). l.next) is) ∙ next) in
+      sym (ap (λ (z : List Entry). places z) (part_with key es a) ∙ (ap (λ (z : List Entry). places (z ++ (key, t) ∷ from t fs)) xs ∙ ap (λ (z : List Entry). places ((key, t) ∷ z)) ys))
+
+  -- The place at the tag's place goes out.
+  pub order_without : (key at : ℕ) (order : List ℕ) (xs ys : List Entry) → Ascend (xs ++ (key, t) ∷ ys) → order ≡ places (filter (by u) (xs ++ (key, t) ∷ ys))
+      → at ≡ length (upto t (filter (by u) (xs ++ (key, t) ∷ ys))) → (at < length order) × (remove order at ≡ places (filter (by u) (xs ++ ys)))
+  order_without key at order xs ys a is at_is =
+      let fx : List Entry = filter (by u) xs in
+      let fy : List Entry = filter (by u) ys in
+      let mid = mid_yes u (key, t) xs ys yes in
+      let order_is : order ≡ places (fx ++ (key, t) ∷ fy) = is ∙ ap (λ (z : List Entry). places z) mid in
+      let place : at ≡ length fx =
+      at_is ∙ (ap (λ (z : List Entry). length (upto t z)) mid ∙ ap (λ (z : List Entry). length z) (before_it t key fx fy (subst Ascend mid (ascend_filter u (xs ++ (key, t) ∷ ys) a)))) in
+      let long : length order ≡ length (fx ++ (key, t) ∷ fy) = ap (λ (z : List ℕ). length z) order_is ∙ length_places (fx ++ (key, t) ∷ fy) in
+      let parts = length-append fx ((key, t) ∷ fy) in (
+        omega (arith, place, long, parts),
+        ap (λ (z : List ℕ). remove z at) order_is ∙ (ap (λ (k : ℕ). remove (places (fx ++ (key, t) ∷ fy)) k) place ∙ (places_without (key, t) fx fy ∙ ap (λ (z : List Entry). places z) (sym (filter-append (by u) xs ys)))),
+      )
 
 -- ---- what a look at a place gives
 

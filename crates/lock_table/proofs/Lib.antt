@@ -13,5 +13,5 @@ mod Asked
 mod Moved
 mod Moving
 mod Putting
-mod OrderMaps
+mod Hashed
 mod Halves

@@ -1,10 +1,8 @@
 -- The table after a node has moved to another page.
 use Rattle.std.proofs.Common.{◌≡◌, ◌≢◌, ℕ, Bool, true, false, cond, List, [], ◌∷◌, ◌++◌, length, length-append, refl, ap, sym, subst, ◌∙◌, arith}
-use Rattle.std.specs.Prelude.{filter, slice_set, IsSome, IfSome}
+use Rattle.std.specs.Prelude.{filter, slice_set, IsSome}
 use Rattle.std.specs.List.{AllByRecursion}
-use Rattle.std.specs.FinMap as fin
-use Rattle.std.specs.FinMap.{FinMap, get, insert, get-empty}
-use Rattle.std.specs.Ordering.{nat_cmp}
+use Rattle.std.specs.FinMap.{FinMap, get, insert}
 use Rattle.std.specs.declared.option.Option.{Option}
 use Rattle.std.specs.declared.option.Option.TheVariants.{None, Some}
 use Rattle.slab.specs.Slab as slab
@@ -14,13 +12,14 @@ use Rattle.tm_base.specs.declared.message.Tag.{Tag}
 use Rattle.tm_data.specs.declared.transaction.Page.{Page}
 use Rattle.tm_data.specs.declared.transaction.Txn.{Txn}
 use Rattle.tm_data.specs.Orders.{txn_cmp}
+use Rattle.lock_table.specs.declared.orders.Orders.{Orders}
 use Rattle.lock_table.specs.declared.node.Link.{Link}
 use Rattle.lock_table.specs.declared.node.Node.{Node}
 use Rattle.lock_table.specs.declared.node.Side.TheVariants as side
 use Rattle.lock_table.specs.declared.heads.Head.{Head}
 use Rattle.lock_table.specs.declared.nodes.Nodes.{Nodes}
 use Rattle.lock_table.specs.Tags.{PageTag, same_txn}
-use Rattle.lock_table.specs.Inside.{Entry, Stand, Lacks, Differ, IsLinked, IsList, IsTable, AreOrdered, Ascend, places, on, of, gap_of, upto, from, tag_in, tag_at, tag_of_node, link_at, link_of_node, head_in, head_with, kept, shorter, changed, rejoined, unlinked, joined, both_to, settled}
+use Rattle.lock_table.specs.Inside.{Entry, Stand, Lacks, Differ, IsLinked, IsList, IsTable, AreOrdered, Ascend, on, of, gap_of, upto, from, tag_in, tag_at, tag_of_node, link_at, link_of_node, head_in, head_with, kept, shorter, changed, rejoined, unlinked, joined, both_to, settled}
 use Rattle.lock_table.specs.Moving.{to_page}
 use Rattle.lock_table.proofs.Writes.{Held, rejoined_tag, rejoined_same, rejoined_held, rejoined_absent}
 use Rattle.lock_table.proofs.Filters.{mid_yes, all_filter, Here}
@@ -31,8 +30,11 @@ is_held : (s : Slab Node) (key : ℕ) (n : Node) → slab.get s key ≡ Some n �
 is_held s key n is = subst (λ (o : Option Node). IsSome o) (sym is) refl
 
 -- no order is kept
-no_orders : (es : List Entry) → AreOrdered fin.empty es
-no_orders es p = subst (λ (o : Option (List ℕ)). IfSome o (λ x. x ≡ places (filter (on p) es))) (sym (get-empty nat_cmp p)) tt
+abbrev no_orders : Orders
+no_orders = record { pages = []; txns = [] }
+
+none_ordered : (es : List Entry) → AreOrdered no_orders es
+none_ordered es = (λ p. tt, λ t. tt)
 
 tags_stay : (f g : ℕ → Option PageTag) → ((e : ℕ) → g e ≡ f e) → (es : List Entry) → Here f es → Here g es
 tags_stay f g same [] h = tt
@@ -75,9 +77,9 @@ module _ (s : Nodes) (n : Node) (key : ℕ) (xs ys : List Entry) where
     holed : Updates s.slab hole key None
     holed = Updates-set s.slab hole key None (ContainsKey-within s.slab key (is_held s.slab key n node)) refl
 
-    without : IsTable gone left.pages fewer fin.empty (xs ++ ys)
+    without : IsTable gone left.pages fewer no_orders (xs ++ ys)
     unfolding gone
-    without = removed_by s.slab hole (rejoined side.Page hole n.on_page n.on_page) gone s.pages left.pages s.txns fewer s.orders fin.empty n key xs ys node holed refl refl refl refl l (no_orders (xs ++ ys))
+    without = removed_by s.slab hole (rejoined side.Page hole n.on_page n.on_page) gone s.pages left.pages s.txns fewer s.orders no_orders n key xs ys node holed refl refl refl refl l (none_ordered (xs ++ ys))
 
     vacant : slab.get gone key ≡ None
     unfolding gone
@@ -152,7 +154,7 @@ module _ (s : Nodes) (n : Node) (key : ℕ) (xs ys : List Entry) where
       heads : (q : Txn) → head_in (get (insert s.txns n.tag.txn (head_with rest key b)) q) ≡ head_in (get more q)
       heads q = txn_kept s.txns n.tag.txn (Some (head_with rest key b)) q ∙ (head_by q (same_txn q n.tag.txn) refl ∙ sym (txn_kept fewer n.tag.txn (Some (head_with (head_in (get fewer n.tag.txn)) key b)) q))
 
-      module _ (orders : FinMap nat_cmp (List ℕ)) where
+      module _ (orders : Orders) where
         abbrev after : Nodes
         after = joined (record { slab = set; pages = left.pages; txns = s.txns; orders = orders }) key to.0 a b
 
@@ -162,5 +164,5 @@ module _ (s : Nodes) (n : Node) (key : ℕ) (xs ys : List Entry) where
             → AreOrdered orders (upto (to_page to.0 (tag_in n)) (xs ++ ys) ++ (key, to_page to.0 (tag_in n)) ∷ from (to_page to.0 (tag_in n)) (xs ++ ys))
             → IsTable after.slab after.pages (insert s.txns n.tag.txn (head_with rest key b)) orders (upto (to_page to.0 (tag_in n)) (xs ++ ys) ++ (key, to_page to.0 (tag_in n)) ∷ from (to_page to.0 (tag_in n)) (xs ++ ys))
         moved_node at_page at_txn lacks o =
-            let done = added_by gone set (rejoined side.Page set a (both_to key)) after.slab left.pages after.pages fewer more fin.empty orders new key (xs ++ ys) vacant written refl refl refl refl at_page at_txn lacks without o in
+            let done = added_by gone set (rejoined side.Page set a (both_to key)) after.slab left.pages after.pages fewer more no_orders orders new key (xs ++ ys) vacant written refl refl refl refl at_page at_txn lacks without o in
             reheaded after.slab after.slab.capacity after.pages after.pages more (insert s.txns n.tag.txn (head_with rest key b)) orders (upto (to_page to.0 (tag_in n)) (xs ++ ys) ++ (key, to_page to.0 (tag_in n)) ∷ from (to_page to.0 (tag_in n)) (xs ++ ys)) (λ p. refl) heads done

@@ -16,6 +16,7 @@ use Rattle.slab.proofs.SlabLemmas.{ContainsKey-within}
 use Rattle.tm_base.specs.declared.message.Tag.{Tag}
 use Rattle.tm_data.specs.declared.transaction.Txn.{Txn}
 use Rattle.tm_data.specs.Orders.{txn_cmp, txn_cmp-total}
+use Rattle.lock_table.specs.declared.orders.Orders.{Orders}
 use Rattle.lock_table.specs.declared.node.Link.{Link}
 use Rattle.lock_table.specs.declared.node.Node.{Node}
 use Rattle.lock_table.specs.declared.node.Side.{Side}
@@ -252,7 +253,7 @@ one_put page key t es s l =
 pub reserved_same : (r u s : Nodes) (slab' : Slab Node) → IsSame r u → slab' ≡ record u.slab { capacity = slab'.capacity } → s.slab ≡ slab' → s.pages ≡ u.pages → s.orders ≡ u.orders → ((x : Txn) → head_in (get s.txns x) ≡ head_in (get u.txns x)) → IsSame r s
 reserved_same r u s slab' same is slab_is pages_is orders_is heads =
     let is' : s.slab ≡ record u.slab { capacity = s.slab.capacity } = slab_is ∙ (is ∙ ap (λ (z : Slab Node). record u.slab { capacity = z.capacity }) (sym slab_is)) in
-    same_then r u s same (subst (λ (o : FinMap nat_cmp (List ℕ)). IsSame u (record { slab = s.slab; pages = s.pages; txns = s.txns; orders = o })) (sym orders_is)
+    same_then r u s same (subst (λ (o : Orders). IsSame u (record { slab = s.slab; pages = s.pages; txns = s.txns; orders = o })) (sym orders_is)
     (same_by u s.slab s.pages s.txns is' (λ p. ap (λ (m : FinMap nat_cmp Head). head_in (get m p)) pages_is) heads))
 
 pub no_tags_left : (ts : List Tag) → length ts ≡ 0 → ts ≡ []

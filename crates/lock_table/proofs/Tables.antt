@@ -14,6 +14,7 @@ use Rattle.slab.specs.Slab as slab
 use Rattle.slab.specs.Slab.{Slab, Updates}
 use Rattle.tm_data.specs.declared.transaction.Txn.{Txn}
 use Rattle.tm_data.specs.Orders.{txn_cmp, txn_cmp-total}
+use Rattle.lock_table.specs.declared.orders.Orders.{Orders}
 use Rattle.lock_table.specs.declared.node.Link.{Link}
 use Rattle.lock_table.specs.declared.node.Node.{Node}
 use Rattle.lock_table.specs.declared.node.Side.TheVariants as side
@@ -199,7 +200,7 @@ txn_kept m k o q = kept_at txn_cmp-total m k o q ∙ ap (λ (b : Bool). cond b (
 abbrev pub of_txn : Txn → PageTag → Bool
 of_txn x t = same_txn t.txn x
 
-module _ (s t : Slab Node) (pages : FinMap nat_cmp Head) (txns : FinMap txn_cmp Head) (orders orders' : FinMap nat_cmp (List ℕ)) (n : Node) (key : ℕ) (xs ys : List Entry) where
+module _ (s t : Slab Node) (pages : FinMap nat_cmp Head) (txns : FinMap txn_cmp Head) (orders orders' : Orders) (n : Node) (key : ℕ) (xs ys : List Entry) where
   abbrev page : ℕ
   page = n.page.0
 
@@ -257,7 +258,7 @@ module _ (s t : Slab Node) (pages : FinMap nat_cmp Head) (txns : FinMap txn_cmp 
         }
 
 -- what the code makes of the slab and of the heads
-pub removed_by : (s u v t : Slab Node) (pages pages' : FinMap nat_cmp Head) (txns txns' : FinMap txn_cmp Head) (orders orders' : FinMap nat_cmp (List ℕ)) (n : Node) (key : ℕ) (xs ys : List Entry)
+pub removed_by : (s u v t : Slab Node) (pages pages' : FinMap nat_cmp Head) (txns txns' : FinMap txn_cmp Head) (orders orders' : Orders) (n : Node) (key : ℕ) (xs ys : List Entry)
     → slab.get s key ≡ Some n → Updates s u key None → v ≡ rejoined side.Page u n.on_page n.on_page → t ≡ rejoined side.Txn v n.of_txn n.of_txn
     → pages' ≡ kept pages n.page.0 (shorter (head_in (get pages n.page.0)) n.on_page) → txns' ≡ kept txns n.tag.txn (shorter (head_in (get txns n.tag.txn)) n.of_txn)
     → IsTable s pages txns orders (xs ++ (key, tag_in n) ∷ ys) → AreOrdered orders' (xs ++ ys) → IsTable t pages' txns' orders' (xs ++ ys)
@@ -272,13 +273,13 @@ removed_by s u v t pages pages' txns txns' orders orders' n key xs ys node up v_
     (subst (λ (m : FinMap txn_cmp Head). IsTable r (kept pages n.page.0 (shorter (head_in (get pages n.page.0)) n.on_page)) m orders' (xs ++ ys)) (sym txns_is) done))
 
 -- the tag of a node that stands in the table
-pub tag_there : (s : Slab Node) (pages : FinMap nat_cmp Head) (txns : FinMap txn_cmp Head) (orders : FinMap nat_cmp (List ℕ)) (n : Node) (key : ℕ) (t : PageTag) (xs ys : List Entry) → slab.get s key ≡ Some n → IsTable s pages txns orders (xs ++ (key, t) ∷ ys) → t ≡ tag_in n
+pub tag_there : (s : Slab Node) (pages : FinMap nat_cmp Head) (txns : FinMap txn_cmp Head) (orders : Orders) (n : Node) (key : ℕ) (t : PageTag) (xs ys : List Entry) → slab.get s key ≡ Some n → IsTable s pages txns orders (xs ++ (key, t) ∷ ys) → t ≡ tag_in n
 tag_there s pages txns orders n key t xs ys node l =
     let same : Some t ≡ Some (tag_in n) = sym (all_at (λ e. tag_at s e.0 ≡ Some e.1) (key, t) xs ys l.here) ∙ ap tag_of_node node in
     cc (same)
 
 -- no tags
-pub none_stand : (s : Slab Node) (pages : FinMap nat_cmp Head) (txns : FinMap txn_cmp Head) (orders : FinMap nat_cmp (List ℕ)) → ((k : ℕ) → slab.get s k ≡ None) → ((p : ℕ) → get pages p ≡ None) → ((x : Txn) → get txns x ≡ None) → AreOrdered orders [] → IsTable s pages txns orders []
+pub none_stand : (s : Slab Node) (pages : FinMap nat_cmp Head) (txns : FinMap txn_cmp Head) (orders : Orders) → ((k : ℕ) → slab.get s k ≡ None) → ((p : ℕ) → get pages p ≡ None) → ((x : Txn) → get txns x ≡ None) → AreOrdered orders [] → IsTable s pages txns orders []
 none_stand s pages txns orders ns np nt empty =
     record {
       ascend = tt;

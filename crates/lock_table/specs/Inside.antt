@@ -14,6 +14,8 @@ use Rattle.tm_data.specs.declared.transaction.Txn.{Txn}
 use Rattle.tm_data.specs.Orders.{txn_cmp}
 use Rattle.lock_table.specs.declared.heads.Head.{Head}
 use Rattle.lock_table.specs.declared.nodes.Nodes.{Nodes}
+use Rattle.lock_table.specs.declared.orders.Orders.{Orders}
+use Rattle.std.specs.Map.{lookup}
 use Rattle.tm_base.specs.declared.message.Tag.{Tag}
 use Rattle.lock_table.specs.declared.node.Link.{Link}
 use Rattle.lock_table.specs.declared.node.Node.{Node}
@@ -143,23 +145,37 @@ abbrev pub IsIn : ℕ → List Entry → Type 0
 IsIn key [] = ⊥
 IsIn key (e ∷ es) = (e.0 ≡ key) ⊎ IsIn key es
 
+-- A test of its tag.
+abbrev pub by : (PageTag → Bool) → Entry → Bool
+by test e = test e.1
+
+abbrev pub is_of : Txn → PageTag → Bool
+is_of txn t = same_txn t.txn txn
+
 abbrev pub on : ℕ → Entry → Bool
-on page e = is_on page e.1
+on page e = by (is_on page) e
 
 abbrev pub of : Txn → Entry → Bool
-of txn e = same_txn e.1.txn txn
+of txn e = by (is_of txn) e
 
 -- The places of a list.
 abbrev pub places : List Entry → List ℕ
 places es = list_map (λ e. e.0) es
 
--- The order of a page, where one is kept, has the places of the page's list.
-abbrev pub AreOrdered : FinMap nat_cmp (List ℕ) → List Entry → Type 0
-AreOrdered orders es = (p : ℕ) → IfSome (map.get orders p) (λ order. order ≡ places (filter (on p) es))
+-- The order of a list, where one is kept, has the places of the list.
+abbrev pub IsOrder : Option (List ℕ) → List Entry → Type 0
+IsOrder order es = IfSome order (λ kept. kept ≡ places es)
+
+-- Those of the lists that a key picks out among all nodes.
+abbrev pub KeepOrder : {K : Type 0} → (K → K → Bool) → (K → PageTag → Bool) → List (K × List ℕ) → List Entry → Type 0
+KeepOrder {K} eq part orders es = (k : K) → IsOrder (lookup (eq k) orders) (filter (by (part k)) es)
+
+abbrev pub AreOrdered : Orders → List Entry → Type 0
+AreOrdered orders es = KeepOrder nat_eq is_on orders.pages es × KeepOrder same_txn is_of orders.txns es
 
 -- All nodes, ascending by page, key and transaction: the list of a page and that of a transaction are what stands
 -- among them on the page, and of the transaction.
-pub record IsTable (slab : Slab Node) (pages : FinMap nat_cmp Head) (txns : FinMap txn_cmp Head) (orders : FinMap nat_cmp (List ℕ)) (es : List Entry) : Type 0 where
+pub record IsTable (slab : Slab Node) (pages : FinMap nat_cmp Head) (txns : FinMap txn_cmp Head) (orders : Orders) (es : List Entry) : Type 0 where
   pub ascend : Ascend es
   pub apart : AreApart es
   pub here : AllByRecursion (λ e. tag_at slab e.0 ≡ Some e.1) es
@@ -168,14 +184,17 @@ pub record IsTable (slab : Slab Node) (pages : FinMap nat_cmp Head) (txns : FinM
   pub txn : (t : Txn) → IsList (link_at side.Txn slab) (head_in (map.get txns t)) (filter (of t) es)
   pub order : AreOrdered orders es
 
--- The order of a page is this one now, or isn't kept.
-abbrev pub Reorders : FinMap nat_cmp (List ℕ) → FinMap nat_cmp (List ℕ) → ℕ → List ℕ → Type 0
-Reorders old new page order = (new ≡ map.insert old page order) ⊎ (new ≡ map.remove old page)
+-- The orders under all other keys are what they were.
+abbrev pub KeepsOthers : {K : Type 0} → (K → K → Bool) → List (K × List ℕ) → List (K × List ℕ) → K → Type 0
+KeepsOthers {K} eq old new key = (k : K) → eq key k ≡ false → lookup (eq k) new ≡ lookup (eq k) old
 
--- The places of an order that may not be kept.
-abbrev pub places_in : Option (List ℕ) → List ℕ
-places_in None = []
-places_in (Some order) = order
+-- What is kept under a key is this now.
+abbrev pub Becomes : {K : Type 0} → (K → K → Bool) → List (K × List ℕ) → List (K × List ℕ) → K → Option (List ℕ) → Type 0
+Becomes eq old new key order = (lookup (eq key) new ≡ order) × KeepsOthers eq old new key
+
+-- The order under a key is this one now, or isn't kept.
+abbrev pub Reorders : {K : Type 0} → (K → K → Bool) → List (K × List ℕ) → List (K × List ℕ) → K → List ℕ → Type 0
+Reorders eq old new key order = Becomes eq old new key (Some order) ⊎ Becomes eq old new key None
 
 -- What is kept in place of a head.
 abbrev pub kept : {K : Type 0} {R : K → K → Ordering} → FinMap R Head → K → Option Head → FinMap R Head

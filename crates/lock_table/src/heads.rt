@@ -1,15 +1,14 @@
 //! Where the lists begin.
 ghost use Rattle.std.specs.Prelude.{◌≡◌, ◌+◌, ◌<◌, ◌≤◌, ◌^◌, OnOk, OnErr, IsSome, None, nat_le};
-ghost use Rattle.std.specs.Option.{option_copied};
 ghost use Rattle.std.specs.FinMap.{empty};
 ghost use Rattle.std.specs.FinMap as map;
 ghost use Rattle.lock_table.specs.Inside.{head_without, head_with};
 
 use crate::node::Link;
 use std::alloc::Global;
-use std::collections::BTreeMap;
+use std::collections::HashMap;
 use std::marker::Model;
-use tm_base::{Mem, NoMemory, Txn, TxnMap};
+use tm_base::{Mem, NoMemory, Txn};
 
 /// The first node of a list, and how many there are.
 #[derive(Clone, Copy)]
@@ -52,17 +51,17 @@ impl Head {
     }
 }
 
-/// The head of the list of each page. Contracts see a finite map.
+/// The head of the list of each page, by hash: what a look-up costs doesn't grow with the pages. Contracts see a finite
+/// map.
 #[derive(Drop)]
 pub(crate) struct PageHeads {
-    heads: BTreeMap<u32, Head>,
+    heads: HashMap<u32, Head>,
 }
 
 impl Model for PageHeads {
     ghost use Rattle.std.specs.Ordering.{nat_cmp};
     ghost use Rattle.std.specs.Coded.{coded_ℕ};
-    ghost use Rattle.std.specs.FinMap.{FinMap, code};
-    ghost use Rattle.tm_data.specs.Maps.{as_map};
+    ghost use Rattle.std.specs.FinMap.{FinMap, code, from_entries};
     ghost use Rattle.lock_table.specs.declared.heads.Head.{Head};
     ghost use Rattle.lock_table.specs.contracts.heads.Head as head;
 
@@ -70,7 +69,7 @@ impl Model for PageHeads {
 
     ghost coded = { code coded_ℕ head.the_row.coded };
 
-    ghost view = { λ m. as_map m.heads };
+    ghost view = { λ m. from_entries m.heads.entries };
 }
 
 impl PageHeads {
@@ -79,7 +78,7 @@ impl PageHeads {
         ensures { result ≡ empty }
     {
         PageHeads {
-            heads: BTreeMap::new(alloc),
+            heads: HashMap::new(alloc),
         }
     }
 
@@ -119,10 +118,67 @@ impl PageHeads {
     }
 }
 
-/// Keeps another head of a transaction's list that is there.
-pub(crate) fn set_txn(heads: &mut TxnMap<Head>, txn: Txn, head: Head)
-    requires { IsSome (map.get heads.old txn) }
-    ensures { heads.new ≡ map.insert heads.old txn head }
-{
-    let _ = heads.insert(txn, head);
+/// The head of the list of each transaction, by hash. Contracts see a finite map.
+#[derive(Drop)]
+pub(crate) struct TxnHeads {
+    heads: HashMap<Txn, Head>,
+}
+
+impl Model for TxnHeads {
+    ghost use Rattle.std.specs.FinMap.{FinMap, code, from_entries};
+    ghost use Rattle.tm_data.specs.Orders.{txn_cmp, coded_txn};
+    ghost use Rattle.lock_table.specs.declared.heads.Head.{Head};
+    ghost use Rattle.lock_table.specs.contracts.heads.Head as head;
+
+    ghost Value = { FinMap txn_cmp Head };
+
+    ghost coded = { code coded_txn head.the_row.coded };
+
+    ghost view = { λ m. from_entries m.heads.entries };
+}
+
+impl TxnHeads {
+    /// No lists.
+    pub(crate) fn new(alloc: Global) -> TxnHeads
+        ensures { result ≡ empty }
+    {
+        TxnHeads {
+            heads: HashMap::new(alloc),
+        }
+    }
+
+    /// The head of a transaction's list.
+    pub(crate) fn get(&self, txn: Txn) -> Option<Head>
+        ensures { result ≡ map.get self.now txn }
+    {
+        self.heads.get(&txn).copied()
+    }
+
+    /// Keeps the head of a transaction's list. Only a new transaction may want memory.
+    pub(crate) fn put(&mut self, txn: Txn, head: Head) -> Mem<()>
+        ensures ok { OnOk result (self.new ≡ map.insert self.old txn head) }
+        ensures err { OnErr result (self.new ≡ self.old) }
+        ensures absent { OnErr result (map.get self.old txn ≡ None) }
+    {
+        let _old = match self.heads.insert(txn, head) {
+            Ok(old) => old,
+            Err(_) => return Err(NoMemory),
+        };
+        Ok(())
+    }
+
+    /// Keeps another head of a list that is there.
+    pub(crate) fn set(&mut self, txn: Txn, head: Head)
+        requires { IsSome (map.get self.old txn) }
+        ensures { self.new ≡ map.insert self.old txn head }
+    {
+        let _ = self.put(txn, head);
+    }
+
+    /// Drops the head of a transaction's list.
+    pub(crate) fn remove(&mut self, txn: Txn)
+        ensures { self.new ≡ map.remove self.old txn }
+    {
+        self.heads.remove(&txn);
+    }
 }

@@ -5,29 +5,30 @@ ghost use Rattle.slab.specs.Slab as slab;
 ghost use Rattle.std.specs.List.{AllByRecursion};
 ghost use Rattle.slab.specs.Slab.{ContainsKey, HasRoomFor};
 ghost use Rattle.std.specs.FinMap as map;
-ghost use Rattle.lock_table.specs.Tags.{is_on_key, PageTag, tag_of, tag_cmp, page_tag};
+ghost use Rattle.std.specs.Map.{lookup};
+ghost use Rattle.lock_table.specs.Tags.{is_on_key, same_txn, PageTag, tag_of, page_tag};
 ghost use Rattle.lock_table.specs.declared.node.Side.TheVariants as side;
 ghost use Rattle.lock_table.specs.Putting.{HasPlace, IsReady, Grows, Stays, HavePut};
 ghost use Rattle.lock_table.specs.Moving.{to_page, Moves, HaveMoved};
-ghost use Rattle.lock_table.specs.Inside.{foreign_in, other_in, least, head_of, IsLinked, Entry, Stand, IsList, tag_in, tag_at, link_at, head_in, kept, shorter, gap_of, upto, from, on, Lacks, IsOpen, IsSame, is_tag, at_place, unlinked, joined};
+ghost use Rattle.lock_table.specs.Inside.{foreign_in, other_in, least, head_of, IsLinked, Entry, Stand, IsList, tag_in, tag_at, link_at, head_in, kept, shorter, gap_of, upto, from, on, of, Ascend, IsOrder, Lacks, IsOpen, IsSame, is_tag, at_place, unlinked, joined};
 
-use crate::heads::{Head, PageHeads, set_txn};
+use crate::heads::{Head, PageHeads, TxnHeads};
 use crate::node::{Link, Node, Side, rejoin, settle};
-use crate::orders::PageOrders;
+use crate::orders::Orders;
 use crate::seek::{compare, enter, gap_in, strike};
 use slab::Slab;
 use std::alloc::Global;
 use std::marker::Brand;
 use std::sync::ledger::{Blank, Ledger};
-use tm_base::{Key, Mem, NoMemory, Page, Steps, Tag, Txn, TxnMap, Writer};
+use tm_base::{Key, Mem, NoMemory, Page, Steps, Tag, Txn, Writer};
 
 /// All tags, each a node of the slab, which stands in the list of its page and in that of its transaction.
 #[derive(Drop)]
 pub(crate) struct Nodes {
     slab: Slab<Node>,
     pages: PageHeads,
-    txns: TxnMap<Head>,
-    orders: PageOrders,
+    txns: TxnHeads,
+    orders: Orders,
 }
 
 // A list of more tags takes no further one: no memory has room for so many.
@@ -64,15 +65,13 @@ fn shorten_page(pages: &mut PageHeads, page: u32, link: Link)
 }
 
 /// A transaction's list has lost a node whose links were these.
-fn shorten_txn(txns: &mut TxnMap<Head>, txn: Txn, link: Link)
+fn shorten_txn(txns: &mut TxnHeads, txn: Txn, link: Link)
     ensures { txns.new ≡ kept txns.old txn (shorter (head_in (map.get txns.old txn)) link) }
 {
-    let head = or_empty(txns.get(&txn).copied());
+    let head = or_empty(txns.get(txn));
     match head.without(link) {
-        Some(head) => set_txn(txns, txn, head),
-        None => {
-            txns.remove(&txn);
-        }
+        Some(head) => txns.set(txn, head),
+        None => txns.remove(txn),
     }
 }
 
@@ -146,8 +145,8 @@ impl Nodes {
         Nodes {
             slab: Slab::new(alloc),
             pages: PageHeads::new(alloc),
-            txns: TxnMap::new(alloc),
-            orders: PageOrders::new(alloc),
+            txns: TxnHeads::new(alloc),
+            orders: Orders::new(alloc),
         }
     }
 
@@ -169,7 +168,7 @@ impl Nodes {
     pub(crate) fn first_of(&self, txn: Txn) -> Option<usize>
         ensures { result ≡ (head_in (map.get self.now.txns txn)).first }
     {
-        or_empty(self.txns.get(&txn).copied()).first
+        or_empty(self.txns.get(txn)).first
     }
 
     /// Where a tag has its place in the list of its page: in front of the first one that isn't below it.
@@ -177,9 +176,21 @@ impl Nodes {
         ensures { (es : List Entry) → Stand self.now es
             → result ≡ gap_of (upto (page_tag page.0 key.now txn) (filter (on page.0) es)) (from (page_tag page.0 key.now txn) (filter (on page.0) es)) }
     {
-        let Some(order) = self.orders.get(page.0) else {
+        let Some(order) = self.orders.pages.get(page.0) else {
             let head = or_empty(self.pages.get(page.0));
             return gap(&self.slab, Side::Page, head, page, key, txn);
+        };
+        gap_in(&self.slab, order.as_slice(), page, key, txn)
+    }
+
+    /// Where a tag has its place in the list of its transaction: in front of the first one that isn't below it.
+    fn place_of(&self, page: Page, key: &Key, txn: Txn) -> Link
+        ensures { (es : List Entry) → Stand self.now es
+            → result ≡ gap_of (upto (page_tag page.0 key.now txn) (filter (of txn) es)) (from (page_tag page.0 key.now txn) (filter (of txn) es)) }
+    {
+        let Some(order) = self.orders.txns.get(txn) else {
+            let head = or_empty(self.txns.get(txn));
+            return gap(&self.slab, Side::Txn, head, page, key, txn);
         };
         gap_in(&self.slab, order.as_slice(), page, key, txn)
     }
@@ -188,7 +199,14 @@ impl Nodes {
     pub(crate) fn forget(&mut self, page: Page)
         ensures { IsSame self.old self.new }
     {
-        self.orders.forget(page.0);
+        self.orders.pages.forget(page.0);
+    }
+
+    /// Drops the order of a transaction, whose nodes all go.
+    pub(crate) fn forget_of(&mut self, txn: Txn)
+        ensures { IsSame self.old self.new }
+    {
+        self.orders.txns.forget(txn);
     }
 
     /// The first tag of another writer on a page.
@@ -241,13 +259,13 @@ impl Nodes {
     {
         let before = self.pages.get(page.0);
         let page_head = or_empty(before);
-        let txn_head = or_empty(self.txns.get(&txn).copied());
+        let txn_head = or_empty(self.txns.get(txn));
         if page_head.count > MOST || txn_head.count > MOST {
             return Err(NoMemory);
         }
         self.slab.reserve(1)?;
         self.pages.put(page.0, page_head)?;
-        let Ok(_) = self.txns.insert(txn, txn_head) else {
+        let Ok(_) = self.txns.put(txn, txn_head) else {
             if let None = before {
                 self.pages.remove(page.0);
             }
@@ -285,7 +303,7 @@ impl Nodes {
     /// The gap for the tag of a node, on another page, among the transaction's tags in the list of a head.
     fn gap_for(&self, key: usize, head: Head, page: Page) -> Link
         ensures { (n : Node) (es : List Entry) → slab.get self.now.slab key ≡ Some n → IsList (link_at side.Txn self.now.slab) head es
-            → AllByRecursion (λ e. tag_at self.now.slab e.0 ≡ Some e.1) es
+            → AllByRecursion (λ e. tag_at self.now.slab e.0 ≡ Some e.1) es → Ascend es → IsOrder (lookup (same_txn n.tag.txn) self.now.orders.txns) es
             → result ≡ gap_of (upto (page_tag page.0 n.tag.key n.tag.txn) es) (from (page_tag page.0 n.tag.key n.tag.txn) es) }
     {
         let Some(node) = self.slab.get(key) else {
@@ -294,14 +312,11 @@ impl Nodes {
                 next: None,
             };
         };
-        gap(
-            &self.slab,
-            Side::Txn,
-            head,
-            page,
-            &node.tag.key,
-            node.tag.txn,
-        )
+        let (key, txn) = (&node.tag.key, node.tag.txn);
+        let Some(order) = self.orders.txns.get(txn) else {
+            return gap(&self.slab, Side::Txn, head, page, key, txn);
+        };
+        gap_in(&self.slab, order.as_slice(), page, key, txn)
     }
 
     /// Moves a node to its place on another page, where no tag is like it and whose list has a head. It takes no
@@ -321,17 +336,17 @@ impl Nodes {
             return;
         };
         let (page, txn, was_on, was_of) = (node.page, node.tag.txn, node.on_page, node.of_txn);
-        let Some(txn_head) = self.txns.get(&txn).copied() else {
+        let Some(txn_head) = self.txns.get(txn) else {
             return;
         };
         self.unlink(page, was_on, was_of);
+        strike(&mut self.orders, &self.slab, key);
         let rest = or_empty(txn_head.without(was_of));
         let of_txn = self.gap_for(key, rest, to);
-        strike(&mut self.orders, &self.slab, key);
         settle(&mut self.slab, key, to, on_page, of_txn);
-        enter(&mut self.orders, &self.slab, key, on_page);
+        enter(&mut self.orders, &self.slab, key, on_page, of_txn);
         self.join(key, to, on_page, of_txn);
-        set_txn(&mut self.txns, txn, rest.with(key, of_txn));
+        self.txns.set(txn, rest.with(key, of_txn));
     }
 
     /// Takes out a node that was to stand where one stands already: tags that are alike are one. No tag is lost by
@@ -419,17 +434,17 @@ impl Nodes {
         ensures txns { (x : Txn) → Grows (map.get self.old.txns x) (map.get self.new.txns x) }
     {
         let txn = tag.txn;
-        let txn_head = or_empty(self.txns.get(&txn).copied());
-        let of_txn = gap(&self.slab, Side::Txn, txn_head, page, &tag.key, txn);
+        let txn_head = or_empty(self.txns.get(txn));
+        let of_txn = self.place_of(page, &tag.key, txn);
         let key = self.slab.insert_reserved(Node {
             page,
             tag,
             on_page,
             of_txn,
         });
-        enter(&mut self.orders, &self.slab, key, on_page);
+        enter(&mut self.orders, &self.slab, key, on_page, of_txn);
         self.join(key, page, on_page, of_txn);
-        set_txn(&mut self.txns, txn, txn_head.with(key, of_txn));
+        self.txns.set(txn, txn_head.with(key, of_txn));
     }
 
     /// Puts a tag into its place on a page, for which there is room, unless it is there. It takes no memory.
@@ -464,11 +479,11 @@ impl Nodes {
         ensures same { (x : Txn) → Stays (map.get self.old.txns x) (map.get self.new.txns x) }
         ensures ok { OnOk result (HasPlace more (map.get self.new.txns txn)) }
     {
-        let head = or_empty(self.txns.get(&txn).copied());
+        let head = or_empty(self.txns.get(txn));
         if head.count > usize::MAX - more {
             return Err(NoMemory);
         }
-        let Ok(_) = self.txns.insert(txn, head) else {
+        let Ok(_) = self.txns.put(txn, head) else {
             return Err(NoMemory);
         };
         Ok(())

@@ -1,16 +1,17 @@
-//! Where the nodes of pages are, for a search by halving.
-ghost use Rattle.std.specs.Prelude.{◌≡◌, ◌≤◌, ◌<◌, ℕ, List, ◌∷◌, [], Some, None, length, OnOk, OnErr, IfOk, insert, remove};
+//! Where the nodes of lists are, for a search by halving.
+ghost use Rattle.std.specs.Prelude.{◌≡◌, ◌≤◌, ◌<◌, ℕ, List, ◌∷◌, [], Some, None, length, OnOk, OnErr, IfOk, insert, remove, nat_le, ◌||◌};
 ghost use Rattle.std.specs.Option.{option_copied};
-ghost use Rattle.std.specs.FinMap.{empty};
-ghost use Rattle.std.specs.FinMap as map;
-ghost use Rattle.lock_table.specs.Inside.{places_in, Reorders};
+ghost use Rattle.std.specs.Map.{lookup};
+ghost use Rattle.lock_table.specs.Inside.{Becomes, KeepsOthers, Reorders};
 
 use std::alloc::Global;
-use std::collections::BTreeMap;
+use std::cmp::Eq;
+use std::collections::HashMap;
+use std::hash::Hash;
 use std::marker::Model;
-use tm_base::Mem;
+use tm_base::{Mem, Txn};
 
-/// The places of a page's nodes, as its list has them. Contracts see the list of the places.
+/// The places of a list's nodes, as the list has them. Contracts see the list of the places.
 #[derive(Drop)]
 pub(crate) struct Order {
     places: Vec<usize>,
@@ -54,6 +55,13 @@ impl Order {
         Ok(())
     }
 
+    /// Whether it isn't kept without the place behind the first `at`: that is its last one, or isn't there.
+    fn is_done(&self, at: usize) -> bool
+        ensures { result ≡ (nat_le (length self.now) 1 || nat_le (length self.now) at) }
+    {
+        self.places.len() <= 1 || at >= self.places.len()
+    }
+
     /// Takes out the place behind the first `at`.
     fn remove(&mut self, at: usize)
         requires { at < length self.old }
@@ -63,102 +71,105 @@ impl Order {
     }
 }
 
-/// The orders of pages. That of a page may be missing, where its memory was wanting: then the page's list is walked.
-/// So no call fails for want of an order. Contracts see a finite map.
+/// The orders of some lists, by hash, each under what its list is of. One may be missing, where its memory was wanting:
+/// then the list is walked. So no call fails for want of an order. Contracts see the entries.
 #[derive(Drop)]
-pub(crate) struct PageOrders {
-    orders: BTreeMap<u32, Order>,
+pub(crate) struct OrderMap<K: Eq + Hash> {
+    orders: HashMap<K, Order>,
     alloc: Global,
 }
 
-impl Model for PageOrders {
-    ghost use Rattle.std.specs.Ordering.{nat_cmp};
+impl<K: Eq + Hash> Model for OrderMap<K> {
     ghost use Rattle.std.specs.Prelude.{List, ℕ};
-    ghost use Rattle.std.specs.Coded.{coded_ℕ, coded_list};
-    ghost use Rattle.std.specs.FinMap.{FinMap, code};
-    ghost use Rattle.tm_data.specs.Maps.{as_map};
 
-    ghost Value = { FinMap nat_cmp (List ℕ) };
+    ghost Value = { List (K × List ℕ) };
 
-    ghost coded = { code coded_ℕ (coded_list coded_ℕ) };
-
-    ghost view = { λ m. as_map m.orders };
+    ghost view = { λ m. m.orders.entries };
 }
 
-impl PageOrders {
+impl<K: Eq + Hash + Copy> OrderMap<K> {
     /// No orders.
-    pub(crate) fn new(alloc: Global) -> PageOrders
-        ensures { result ≡ empty }
+    fn new(alloc: Global) -> OrderMap<K>
+        ensures { result ≡ [] }
     {
-        PageOrders {
-            orders: BTreeMap::new(alloc),
+        OrderMap {
+            orders: HashMap::new(alloc),
             alloc,
         }
     }
 
-    /// The order of a page.
-    pub(crate) fn get(&self, page: u32) -> Option<&Order>
-        ensures { option_copied result ≡ map.get self.now page }
+    /// The order of a list.
+    pub(crate) fn get(&self, list: K) -> Option<&Order>
+        ensures { option_copied result ≡ lookup (K.eq list) self.now }
     {
-        self.orders.get(&page)
+        self.orders.get(&list)
     }
 
-    /// How many places the order of a page has.
-    fn len(&self, page: u32) -> usize
-        ensures { result ≡ length (places_in (map.get self.now page)) }
+    /// Drops the order of a list.
+    pub(crate) fn forget(&mut self, list: K)
+        ensures { Becomes K.eq self.old self.new list None }
     {
-        match self.orders.get(&page) {
-            Some(order) => order.as_slice().len(),
-            None => 0,
-        }
+        self.orders.remove(&list);
     }
 
-    /// Drops the order of a page.
-    pub(crate) fn forget(&mut self, page: u32)
-        ensures { self.new ≡ map.remove self.old page }
-    {
-        self.orders.remove(&page);
-    }
-
-    /// Begins the order of a page with one place.
-    pub(crate) fn begin(&mut self, page: u32, key: usize)
-        requires { map.get self.old page ≡ None }
-        ensures { Reorders self.old self.new page (key ∷ []) }
+    /// Begins the order of a list with one place.
+    pub(crate) fn begin(&mut self, list: K, key: usize)
+        requires { lookup (K.eq list) self.old ≡ None }
+        ensures { Reorders K.eq self.old self.new list (key ∷ []) }
     {
         let Ok(order) = Order::one(self.alloc, key) else {
             return;
         };
-        let Ok(_) = self.orders.insert(page, order) else {
+        let Ok(_) = self.orders.insert(list, order) else {
             return;
         };
     }
 
-    /// Adds a place to the order of a page, behind the first `at`.
-    pub(crate) fn insert(&mut self, page: u32, at: usize, key: usize)
-        requires { (order : List ℕ) → map.get self.old page ≡ Some order → at ≤ length order }
-        ensures { (order : List ℕ) → map.get self.old page ≡ Some order → Reorders self.old self.new page (insert order at key) }
+    /// Adds a place to the order of a list, behind the first `at`.
+    pub(crate) fn insert(&mut self, list: K, at: usize, key: usize)
+        requires { (order : List ℕ) → lookup (K.eq list) self.old ≡ Some order → at ≤ length order }
+        ensures { (order : List ℕ) → lookup (K.eq list) self.old ≡ Some order → Reorders K.eq self.old self.new list (insert order at key) }
     {
-        let Some(order) = self.orders.get_mut(&page) else {
+        let Some(order) = self.orders.get_mut(&list) else {
             return;
         };
         let Ok(()) = order.insert(at, key) else {
-            self.forget(page);
+            self.forget(list);
             return;
         };
     }
 
-    /// Takes the place behind the first `at` out of the order of a page.
-    pub(crate) fn remove(&mut self, page: u32, at: usize)
-        ensures { (order : List ℕ) → map.get self.old page ≡ Some order → at < length order → Reorders self.old self.new page (remove order at) }
+    /// Takes the place behind the first `at` out of the order of a list.
+    pub(crate) fn remove(&mut self, list: K, at: usize)
+        ensures order { (order : List ℕ) → lookup (K.eq list) self.old ≡ Some order → at < length order → Reorders K.eq self.old self.new list (remove order at) }
+        ensures others { KeepsOthers K.eq self.old self.new list }
     {
-        let len = self.len(page);
-        if len <= 1 || at >= len {
-            self.forget(page);
-            return;
-        }
-        let Some(order) = self.orders.get_mut(&page) else {
+        let Some(order) = self.orders.get_mut(&list) else {
             return;
         };
+        if order.is_done(at) {
+            self.forget(list);
+            return;
+        }
         order.remove(at);
+    }
+}
+
+/// The orders of the lists of pages, and of those of transactions.
+#[derive(Drop)]
+pub(crate) struct Orders {
+    pub(crate) pages: OrderMap<u32>,
+    pub(crate) txns: OrderMap<Txn>,
+}
+
+impl Orders {
+    /// No orders.
+    pub(crate) fn new(alloc: Global) -> Orders
+        ensures { (result.pages ≡ []) × (result.txns ≡ []) }
+    {
+        Orders {
+            pages: OrderMap::new(alloc),
+            txns: OrderMap::new(alloc),
+        }
     }
 }

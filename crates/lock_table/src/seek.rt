@@ -1,14 +1,16 @@
-//! The place of a tag among those of a page, by halving.
-ghost use Rattle.std.specs.Prelude.{◌≡◌, ◌≤◌, ◌++◌, ◌∷◌, List, Some, length, filter};
+//! The place of a tag among those of a list, by halving.
+ghost use Rattle.std.specs.Prelude.{◌≡◌, ◌≤◌, ◌++◌, ◌∷◌, List, Bool, true, Some, length, filter};
 ghost use Rattle.std.specs.List.{AllByRecursion};
 ghost use Rattle.std.specs.Ordering.{is_lt};
 ghost use Rattle.lock_table.specs.Tags.{PageTag, tag_cmp, page_tag};
-ghost use Rattle.lock_table.specs.Inside.{Entry, Ascend, AreOrdered, places, tag_in, tag_at, gap_of, upto, from, on};
+ghost use Rattle.lock_table.specs.Inside.{Entry, Ascend, AreOrdered, IsOrder, KeepsOthers, places, tag_in, tag_at, gap_of, upto, from, by, on, of};
+ghost use Rattle.std.specs.Map.{lookup};
 
 use crate::node::{Link, Node};
-use crate::orders::PageOrders;
+use crate::orders::{OrderMap, Orders};
 use slab::Slab;
-use std::cmp::Ordering;
+use std::cmp::{Eq, Ordering};
+use std::hash::Hash;
 use tm_base::{Key, Page, Txn};
 
 /// How the tag of a node compares with this one: by page, then by key, then by transaction.
@@ -64,38 +66,92 @@ pub(crate) fn gap_in(nodes: &Slab<Node>, order: &[usize], page: Page, key: &Key,
     }
 }
 
-/// A node that comes into a gap of its page's list comes into the page's order. The first of a page begins it.
-pub(crate) fn enter(orders: &mut PageOrders, nodes: &Slab<Node>, key: usize, gap: Link)
-    ensures { (es : List Entry) (t : PageTag) → tag_at nodes.now key ≡ Some t → Ascend es → AllByRecursion (λ e. tag_at nodes.now e.0 ≡ Some e.1) es
-        → gap ≡ gap_of (upto t (filter (on t.page) es)) (from t (filter (on t.page) es)) → AreOrdered orders.old es
-        → AreOrdered orders.new (upto t es ++ (key, t) ∷ from t es) }
+/// A node that comes into a gap of a list comes into the list's order. The first of a list begins it.
+fn enter_list<K: Eq + Hash + Copy>(
+    orders: &mut OrderMap<K>,
+    list: K,
+    nodes: &Slab<Node>,
+    key: usize,
+    gap: Link,
+)
+    ensures here { (u : PageTag → Bool) (es : List Entry) (t : PageTag) → tag_at nodes.now key ≡ Some t → u t ≡ true → Ascend es → AllByRecursion (λ e. tag_at nodes.now e.0 ≡ Some e.1) es
+        → gap ≡ gap_of (upto t (filter (by u) es)) (from t (filter (by u) es)) → IsOrder (lookup (K.eq list) orders.old) (filter (by u) es)
+        → IsOrder (lookup (K.eq list) orders.new) (filter (by u) (upto t es ++ (key, t) ∷ from t es)) }
+    ensures others { KeepsOthers K.eq orders.old orders.new list }
 {
     let Some(node) = nodes.get(key) else {
         return;
     };
-    let page = node.page;
-    let Some(order) = orders.get(page.0) else {
+    let Some(order) = orders.get(list) else {
         if gap.is_all() {
-            orders.begin(page.0, key);
+            orders.begin(list, key);
         }
         return;
     };
-    let at = below(nodes, order.as_slice(), page, &node.tag.key, node.tag.txn);
-    orders.insert(page.0, at, key);
+    let at = below(
+        nodes,
+        order.as_slice(),
+        node.page,
+        &node.tag.key,
+        node.tag.txn,
+    );
+    orders.insert(list, at, key);
 }
 
-/// A node that leaves its page's list leaves the page's order.
-pub(crate) fn strike(orders: &mut PageOrders, nodes: &Slab<Node>, key: usize)
+/// A node that comes into these gaps of its lists comes into their orders.
+pub(crate) fn enter(
+    orders: &mut Orders,
+    nodes: &Slab<Node>,
+    key: usize,
+    on_page: Link,
+    of_txn: Link,
+)
+    ensures { (es : List Entry) (t : PageTag) → tag_at nodes.now key ≡ Some t → Ascend es → AllByRecursion (λ e. tag_at nodes.now e.0 ≡ Some e.1) es
+        → on_page ≡ gap_of (upto t (filter (on t.page) es)) (from t (filter (on t.page) es)) → of_txn ≡ gap_of (upto t (filter (of t.txn) es)) (from t (filter (of t.txn) es))
+        → AreOrdered orders.old es → AreOrdered orders.new (upto t es ++ (key, t) ∷ from t es) }
+{
+    let Some(node) = nodes.get(key) else {
+        return;
+    };
+    enter_list(&mut orders.pages, node.page.0, nodes, key, on_page);
+    enter_list(&mut orders.txns, node.tag.txn, nodes, key, of_txn);
+}
+
+/// A node that leaves a list leaves the list's order.
+fn strike_list<K: Eq + Hash + Copy>(
+    orders: &mut OrderMap<K>,
+    list: K,
+    nodes: &Slab<Node>,
+    key: usize,
+)
+    ensures here { (u : PageTag → Bool) (xs ys : List Entry) (t : PageTag) → u t ≡ true → Ascend (xs ++ (key, t) ∷ ys) → AllByRecursion (λ e. tag_at nodes.now e.0 ≡ Some e.1) (xs ++ (key, t) ∷ ys)
+        → IsOrder (lookup (K.eq list) orders.old) (filter (by u) (xs ++ (key, t) ∷ ys)) → IsOrder (lookup (K.eq list) orders.new) (filter (by u) (xs ++ ys)) }
+    ensures others { KeepsOthers K.eq orders.old orders.new list }
+{
+    let Some(node) = nodes.get(key) else {
+        return;
+    };
+    let Some(order) = orders.get(list) else {
+        return;
+    };
+    let at = below(
+        nodes,
+        order.as_slice(),
+        node.page,
+        &node.tag.key,
+        node.tag.txn,
+    );
+    orders.remove(list, at);
+}
+
+/// A node that leaves its lists leaves their orders.
+pub(crate) fn strike(orders: &mut Orders, nodes: &Slab<Node>, key: usize)
     ensures { (xs ys : List Entry) (t : PageTag) → Ascend (xs ++ (key, t) ∷ ys) → AllByRecursion (λ e. tag_at nodes.now e.0 ≡ Some e.1) (xs ++ (key, t) ∷ ys)
         → AreOrdered orders.old (xs ++ (key, t) ∷ ys) → AreOrdered orders.new (xs ++ ys) }
 {
     let Some(node) = nodes.get(key) else {
         return;
     };
-    let page = node.page;
-    let Some(order) = orders.get(page.0) else {
-        return;
-    };
-    let at = below(nodes, order.as_slice(), page, &node.tag.key, node.tag.txn);
-    orders.remove(page.0, at);
+    strike_list(&mut orders.pages, node.page.0, nodes, key);
+    strike_list(&mut orders.txns, node.tag.txn, nodes, key);
 }

@@ -108,6 +108,7 @@ impl Tags {
         ensures gone { self.new ≡ without_txn self.old txn }
         ensures exactly { steps.new ≡ steps.old + length (tags_of self.old txn) }
     {
+        self.forget_of(txn);
         while self.take_of(txn, steps) {}
     }
 
@@ -129,6 +130,13 @@ impl Tags {
         };
         let tag = self.nodes.remove(at, steps);
         Some(tag)
+    }
+
+    /// Keeps no order of a transaction, whose tags all go.
+    fn forget_of(&mut self, txn: Txn)
+        ensures { self.new ≡ self.old }
+    {
+        self.nodes.forget_of(txn);
     }
 
     /// Keeps no order of a page, whose tags all go.

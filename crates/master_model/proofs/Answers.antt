@@ -22,7 +22,7 @@ use Rattle.master_model.specs.declared.session.Own.{Own}
 use Rattle.master_model.specs.declared.session.Progress.{Progress}
 use Rattle.master_model.specs.declared.session.Progress.TheVariants.{Active, Undoing, Ended}
 use Rattle.log_writer.specs.Log.{lacking}
-use Rattle.master_model.specs.Tags.{Tags, is_full as tags_full, page_tag, same_txn, tags_on, takes, with_tag, others_on, foreign_on}
+use Rattle.lock_table.specs.Tags.{Tags, is_full as tags_full, page_tag, same_txn, tags_on, takes, with_tag, others_on, foreign_on}
 use Rattle.master_model.specs.State.{Work, Answer, answers, durable, says, to_locks}
 use Rattle.master_model.specs.Fates as fates
 use Rattle.master_model.specs.Fates.{is_ended, is_own, Standing, Free, Locks, Unknown, named, unless, or_later}
@@ -94,7 +94,7 @@ not_below : (n most : ℕ) → nat_lt n most ≡ false → most ≤ n
 not_below n most is = grind (arith, nat_tests)
 
 full_of : (tags : Tags) (page : ℕ) (key : List ℕ) (t : Txn) → takes tags page key t ≡ false → 4096 ≤ length (tags_on tags page)
-full_of tags page key t is = by (sets.contains tags (page_tag page key t)) (tags_full tags page) refl is
+full_of tags page key t is = by (fin.contains_key tags (page_tag page key t)) (tags_full tags page) refl is
   where
     by : (a b : Bool) → tags_full tags page ≡ b → cond a true (not b) ≡ false → 4096 ≤ length (tags_on tags page)
     by true b full k = absurd (cc k)

@@ -2,7 +2,7 @@
 use Rattle.std.proofs.Common.{◌≡◌, ℕ, Bool, true, false, List, [], ◌∷◌, Option, Some, None, cond, arith}
 use Rattle.std.specs.Prelude.{nat_eq, not, length}
 use Rattle.std.specs.List.{AllByRecursion}
-use Rattle.std.specs.FinSet as sets
+use Rattle.std.specs.FinMap as fin
 use Rattle.tm_data.specs.declared.image.Image.{Image}
 use Rattle.tm_data.specs.declared.transaction.Page.{Page}
 use Rattle.tm_data.specs.declared.transaction.Txn.{Txn}
@@ -15,7 +15,7 @@ use Rattle.tm_base.specs.declared.message.Note.{Note}
 use Rattle.tm_base.specs.declared.message.Note.TheVariants as note
 use Rattle.tm_base.specs.declared.message.Tag.{Tag}
 use Rattle.page_model.specs.Splits.{Halves, halves}
-use Rattle.master_model.specs.Tags.{PageTag, Tags, is_on, moved, moved_tag, page_tag, same_txn}
+use Rattle.lock_table.specs.Tags.{PageTag, Tags, is_on, moved, moved_tag, page_tag, same_txn}
 use Rattle.master_model.specs.State.{Work, Life, State, durable, joined}
 use Rattle.master_model.specs.Fates.{is_ended, is_open, is_own}
 use Rattle.master_model.specs.Reads.{txn_numbered}
@@ -174,5 +174,5 @@ command_begun begun s session asked f h = by s.life f h
     by None f k = h
     by (Some l) f k = in_life l l.fenced f k
 
-pub own_tag_open : (begun : ℕ) (w : Work) (t : PageTag) → WorkFacts begun w → TagsAreBegun w → sets.contains w.tags t ≡ true → is_own w t.txn ≡ true → is_open w t.txn.number ≡ true
+pub own_tag_open : (begun : ℕ) (w : Work) (t : PageTag) → WorkFacts begun w → TagsAreBegun w → fin.contains_key w.tags t ≡ true → is_own w t.txn ≡ true → is_open w t.txn.number ≡ true
 own_tag_open begun w t f h at own = let two = h t at own in unended_open w t.txn.number (unended_own w t.txn (f.of_tags.binds t at) own) two.0 two.1

@@ -1,6 +1,7 @@
 -- When a get and a put are done.
 use Rattle.std.proofs.Common.{◌≡◌, ◌≤◌, ◌<◌, ◌+◌, ◌-◌, ◌^◌, ◌⊎◌, inl, inr, ℕ, Bool, true, false, List, [], ◌∷◌, Option, Some, None, Result, Ok, Err, refl, ap, sym, subst, ◌∙◌, cond, not, arith}
 use Rattle.std.specs.Prelude.{nat_eq, nat_lt, nat_le, ◌&&◌, length, reverse, take}
+use Rattle.std.specs.FinMap as fin
 use Rattle.std.specs.FinSet as sets
 use Rattle.std.proofs.lemmas.Bool.Decides.{nat_tests}
 use Rattle.std.proofs.lemmas.List.{length-reverse}
@@ -19,7 +20,7 @@ use Rattle.page_model.specs.Tree.{Images, level_of, table_of}
 use Rattle.lease_desk.specs.Desk.{is_held, lease_of}
 use Rattle.master_model.specs.declared.session.Own.{Own}
 use Rattle.master_model.specs.declared.session.Progress.{Progress}
-use Rattle.master_model.specs.Tags.{Tags, foreign_on, is_full as tags_full, others_on, page_tag, same_txn, tags_on, takes}
+use Rattle.lock_table.specs.Tags.{Tags, foreign_on, is_full as tags_full, others_on, page_tag, same_txn, tags_on, takes}
 use Rattle.master_model.specs.State.{Work, Life, State, Answer, writer_of}
 use Rattle.master_model.specs.Fates as fates
 use Rattle.master_model.specs.Fates.{is_ended, is_own, standing_by}
@@ -83,7 +84,7 @@ abbrev IsValue : Reply → Type 0
 IsValue said = (value : Option (List ℕ)) × (said ≡ reply.Value value)
 
 has_room : (tags : Tags) (page : ℕ) (key : List ℕ) (t : Txn) → length (tags_on tags page) < 4096 → takes tags page key t ≡ true
-has_room tags page key t h = by (sets.contains tags (page_tag page key t)) (tags_full tags page) (grind (arith, nat_tests))
+has_room tags page key t h = by (fin.contains_key tags (page_tag page key t)) (tags_full tags page) (grind (arith, nat_tests))
   where
     by : (a b : Bool) → b ≡ false → cond a true (not b) ≡ true
     by true b k = refl

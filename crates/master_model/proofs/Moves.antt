@@ -27,7 +27,7 @@ use Rattle.lease_desk.specs.Desk.{granted, is_held, is_ready, is_releasing, leas
 use Rattle.master_model.specs.declared.session.Own.{Own}
 use Rattle.master_model.specs.declared.session.Progress.{Progress}
 use Rattle.master_model.specs.declared.session.Progress.TheVariants.{Active, Undoing, Ended}
-use Rattle.master_model.specs.Tags.{same_txn, takes, with_tag, others_on, foreign_on}
+use Rattle.lock_table.specs.Tags.{same_txn, takes, with_tag, others_on, foreign_on}
 use Rattle.master_model.specs.State.{Work, Answer, durable, settled}
 use Rattle.master_model.specs.Fates as fates
 use Rattle.master_model.specs.Fates.{Standing, Free, Locks, Unknown, hears, is_own, named, with_end, unless, or_later}

@@ -11,7 +11,7 @@ use Rattle.tm_data.specs.declared.transaction.Txn.{Txn}
 use Rattle.tm_data.specs.declared.transaction.Writer.{Writer}
 use Rattle.log_writer.specs.Acks.{no_acks}
 use Rattle.log_writer.specs.Log.{Log, acked, appended}
-use Rattle.master_model.specs.Tags.{same_txn}
+use Rattle.lock_table.specs.Tags.{same_txn}
 use Rattle.master_model.specs.declared.session.Own.{Own}
 use Rattle.master_model.specs.State.{Work}
 use Rattle.master_model.specs.Acks.{ends_in}

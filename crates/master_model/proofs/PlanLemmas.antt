@@ -13,7 +13,7 @@ use Rattle.tm_data.specs.declared.transaction.Txn.{Txn}
 use Rattle.page_model.specs.Splits as splits
 use Rattle.page_model.specs.Splits.{Halves, Refusal, Spot, changed_page, images_on, placed, plan_of}
 use Rattle.page_model.specs.Tree.{Images, level_of}
-use Rattle.master_model.specs.Tags.{same_txn}
+use Rattle.lock_table.specs.Tags.{same_txn}
 use Rattle.master_model.specs.Paths.{row_at}
 use Rattle.master_model.specs.Ends as ends
 use Rattle.master_model.specs.Acks.{ends_in}

@@ -24,7 +24,7 @@ use Rattle.page_model.specs.Tree.{Images, body_at, going_on, path_below, path_of
 use Rattle.master_model.specs.declared.session.Own.{Own}
 use Rattle.master_model.specs.declared.session.Progress.{Progress}
 use Rattle.master_model.specs.declared.session.Progress.TheVariants.{Active}
-use Rattle.master_model.specs.Tags.{same_txn, takes, others_on, foreign_on}
+use Rattle.lock_table.specs.Tags.{same_txn, takes, others_on, foreign_on}
 use Rattle.master_model.specs.State.{Work, Life, State, Answer}
 use Rattle.master_model.specs.Fates as fates
 use Rattle.master_model.specs.Fates.{Standing, Free, Locks, Unknown, unless, or_later}

@@ -13,7 +13,7 @@ use Rattle.page_model.specs.Tree.{path_of}
 use Rattle.master_model.specs.declared.session.Own.{Own}
 use Rattle.master_model.specs.declared.session.Progress.{Progress}
 use Rattle.master_model.specs.declared.session.Progress.TheVariants.{Active, Undoing, Ended}
-use Rattle.master_model.specs.Tags.{same_txn, takes}
+use Rattle.lock_table.specs.Tags.{same_txn, takes}
 use Rattle.master_model.specs.State.{Work}
 use Rattle.master_model.specs.Fates as fates
 use Rattle.master_model.specs.Fates.{Standing, Free, Locks, Unknown, is_ended, is_own}

@@ -22,7 +22,7 @@ use Rattle.lease_desk.specs.Desk.{Leases, is_held, lease_of}
 use Rattle.master_model.specs.declared.session.Own.{Own}
 use Rattle.master_model.specs.declared.session.Progress.{Progress}
 use Rattle.master_model.specs.declared.session.Progress.TheVariants.{Active, Undoing, Ended}
-use Rattle.master_model.specs.Tags.{PageTag, Tags, is_on, moved, moved_tag, page_tag, same_txn, with_tags, without_page, without_txn}
+use Rattle.lock_table.specs.Tags.{PageTag, Tags, is_on, moved, moved_tag, page_tag, same_txn, with_tags, without_page, without_txn}
 use Rattle.master_model.specs.State.{Work, durable}
 use Rattle.master_model.specs.Fates.{has_ended, is_ended, is_over, is_own}
 use Rattle.master_model.specs.Logging.{next_group}
@@ -113,7 +113,7 @@ not_so : (b : Bool) → not b ≡ true → b ≡ false
 not_so true h = cc h
 not_so false h = refl
 
-pub without_passes : (tags : Tags) (ends : List (Txn × Bool)) (t : PageTag) → sets.contains (without_all tags ends) t ≡ true → (sets.contains tags t ≡ true) × AllByRecursion (λ (e : Txn × Bool). same_txn t.txn e.0 ≡ false) ends
+pub without_passes : (tags : Tags) (ends : List (Txn × Bool)) (t : PageTag) → fin.contains_key (without_all tags ends) t ≡ true → (fin.contains_key tags t ≡ true) × AllByRecursion (λ (e : Txn × Bool). same_txn t.txn e.0 ≡ false) ends
 without_passes tags [] t is = (is, tt)
 without_passes tags (e ∷ es) t is =
     let rest = without_passes (without_txn tags e.0) es t is in
@@ -167,10 +167,10 @@ more_tags w store seq sessions f = record { had = λ t at. f.had t (left t at).0
     ends : List (Txn × Bool)
     ends = ends_between new.log.groups (durable w) (durable new)
 
-    left : (t : PageTag) → sets.contains (without_all w.tags ends) t ≡ true → (sets.contains w.tags t ≡ true) × AllByRecursion (λ (e : Txn × Bool). same_txn t.txn e.0 ≡ false) ends
+    left : (t : PageTag) → fin.contains_key (without_all w.tags ends) t ≡ true → (fin.contains_key w.tags t ≡ true) × AllByRecursion (λ (e : Txn × Bool). same_txn t.txn e.0 ≡ false) ends
     left t at = without_passes w.tags ends t at
 
-    binds : (t : PageTag) → (sets.contains w.tags t ≡ true) × AllByRecursion (λ (e : Txn × Bool). same_txn t.txn e.0 ≡ false) ends → is_ended (without_ended new (durable w)) t.txn ≡ false
+    binds : (t : PageTag) → (fin.contains_key w.tags t ≡ true) × AllByRecursion (λ (e : Txn × Bool). same_txn t.txn e.0 ≡ false) ends → is_ended (without_ended new (durable w)) t.txn ≡ false
     binds t two = unended_on w (without_ended new (durable w)) t.txn (λ own from most open_in.
         acked_open w.log new.log.groups w.begun (durable new) t.txn.number w.sessions (acked_is w.log.groups store seq).same sessions
         (subst (λ (x : Txn). AllByRecursion (λ (e : Txn × Bool). same_txn x e.0 ≡ false) ends) (own_is w t.txn own) two.1) (open_in most)) refl refl (f.binds t two.0)
@@ -222,7 +222,7 @@ image_tags w (Some images) f = record { had = f.had; binds = f.binds }
 end_tags : (w : Work) (t : Txn) → is_own w t ≡ false → TagFacts w → TagFacts (record w { ended = sets.insert w.ended t; told_open = sets.remove w.told_open t; tags = without_txn w.tags t })
 end_tags w t foreign f = record { had = λ u at. f.had u (left u at).0; binds = λ u at. binds u (left u at) }
   where
-    left : (u : PageTag) → sets.contains (without_txn w.tags t) u ≡ true → (sets.contains w.tags u ≡ true) × (not (same_txn u.txn t) ≡ true)
+    left : (u : PageTag) → fin.contains_key (without_txn w.tags t) u ≡ true → (fin.contains_key w.tags u ≡ true) × (not (same_txn u.txn t) ≡ true)
     left u at = left_passes w.tags (λ x. not (same_txn x.txn t)) u at
 
     new : Work
@@ -235,7 +235,7 @@ end_tags w t foreign f = record { had = λ u at. f.had u (left u at).0; binds = 
         by true same k = absurd (let yes : same_txn u t ≡ true = ap (λ (x : Txn). same_txn x t) (eq_txn u t same) ∙ same_itself t in cc (yes, differ))
         by false same k = k ∙ old
 
-    binds : (u : PageTag) → (sets.contains w.tags u ≡ true) × (not (same_txn u.txn t) ≡ true) → is_ended new u.txn ≡ false
+    binds : (u : PageTag) → (fin.contains_key w.tags u ≡ true) × (not (same_txn u.txn t) ≡ true) → is_ended new u.txn ≡ false
     binds u two = unended_by new u.txn (λ own. unended_own w u.txn (f.binds u two.0) own) (λ own. other u.txn (not_so (same_txn u.txn t) two.1) (unended_other w u.txn (f.binds u two.0) own))
 
 -- ---- sessions

@@ -12,7 +12,7 @@ use Rattle.tm_base.specs.declared.message.Node.TheVariants.{LogStore}
 use Rattle.tm_base.specs.declared.message.Note.TheVariants as note
 use Rattle.log_writer.specs.declared.logged.Logged.{Logged}
 use Rattle.log_writer.specs.Log.{acked, last_stamp, resent}
-use Rattle.master_model.specs.Tags.{Tags, without_txn}
+use Rattle.lock_table.specs.Tags.{Tags, without_txn}
 use Rattle.master_model.specs.State.{Work, Effect, ignored, durable, message, to_locks}
 use Rattle.master_model.specs.Leases.{again, recalled_pages, releases_all, releasing_pages}
 use Rattle.master_model.specs.Logging.{has_numbers, has_stamps, next_group, with_group}

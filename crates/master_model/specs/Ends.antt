@@ -16,7 +16,7 @@ use Rattle.tm_data.specs.declared.transaction.Txn.{Txn}
 use Rattle.tm_base.specs.declared.reply.Reply.{Reply}
 use Rattle.tm_base.specs.declared.reply.Reply.TheVariants as reply
 use Rattle.log_writer.specs.Log.{lacking}
-use Rattle.master_model.specs.Tags.{same_txn}
+use Rattle.lock_table.specs.Tags.{same_txn}
 use Rattle.master_model.specs.declared.session.Own.{Own}
 use Rattle.master_model.specs.declared.session.Progress.{Progress}
 use Rattle.master_model.specs.declared.session.Progress.TheVariants.{Active, Undoing, Ended}

@@ -4,7 +4,6 @@ use Rattle.std.specs.List.{AllByRecursion}
 use Rattle.std.specs.Ordering.{nat_cmp}
 use Rattle.std.specs.FinMap.{FinMap}
 use Rattle.std.specs.FinMap as fin
-use Rattle.std.specs.FinSet as sets
 use Rattle.std.specs.declared.option.Option.{Option}
 use Rattle.std.specs.declared.option.Option.TheVariants.{None, Some}
 use Rattle.tm_data.specs.declared.image.Image.{Image}
@@ -31,7 +30,7 @@ use Rattle.master_model.specs.declared.left.Left.{Left}
 use Rattle.master_model.specs.declared.session.Own.{Own}
 use Rattle.master_model.specs.declared.session.Progress.{Progress}
 use Rattle.master_model.specs.declared.session.Progress.TheVariants.{Active, Undoing, Ended}
-use Rattle.master_model.specs.Tags.{PageTag, same_txn}
+use Rattle.lock_table.specs.Tags.{PageTag, same_txn}
 use Rattle.master_model.specs.Fates.{is_ended, is_own}
 use Rattle.master_model.specs.Ends.{end_of}
 use Rattle.master_model.specs.Acks.{ends_in}
@@ -237,8 +236,8 @@ pub record EndFacts (ends : List (Txn × Bool)) (writer : Writer) (begun : ℕ) 
 
 -- Each tag stands on a page that is held or recalled, and is of a transaction that isn't known to have ended.
 pub record TagFacts (w : Work) : Type 0 where
-  pub had : (t : PageTag) → sets.contains w.tags t ≡ true → Has w.leases t.page
-  pub binds : (t : PageTag) → sets.contains w.tags t ≡ true → is_ended w t.txn ≡ false
+  pub had : (t : PageTag) → fin.contains_key w.tags t ≡ true → Has w.leases t.page
+  pub binds : (t : PageTag) → fin.contains_key w.tags t ≡ true → is_ended w t.txn ≡ false
 
 -- ---- a master
 
@@ -272,7 +271,7 @@ IsBegun w t = is_own w t ≡ true → (1 ≤ t.number) × (t.number ≤ w.begun)
 
 -- So is that of each own tag.
 abbrev pub TagsAreBegun : Work → Type 0
-TagsAreBegun w = (t : PageTag) → sets.contains w.tags t ≡ true → IsBegun w t.txn
+TagsAreBegun w = (t : PageTag) → fin.contains_key w.tags t ≡ true → IsBegun w t.txn
 
 abbrev pub OwnTags : Option Life → Type 0
 OwnTags None = Unit {0}

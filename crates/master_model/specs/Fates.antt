@@ -13,7 +13,7 @@ use Rattle.tm_base.specs.declared.message.Tag.{Tag}
 use Rattle.tm_base.specs.declared.reply.Reply.{Reply}
 use Rattle.tm_base.specs.declared.reply.Reply.TheVariants as reply
 use Rattle.vs_clock.specs.State.{heard_vector}
-use Rattle.master_model.specs.Tags.{without_txn}
+use Rattle.lock_table.specs.Tags.{without_txn}
 use Rattle.master_model.specs.declared.session.Own.{Own}
 use Rattle.master_model.specs.declared.session.Progress.{Progress}
 use Rattle.master_model.specs.declared.session.Progress.TheVariants.{Active, Undoing, Ended}

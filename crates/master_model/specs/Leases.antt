@@ -19,7 +19,7 @@ use Rattle.lease_desk.specs.declared.lease.Lease.{Lease}
 use Rattle.lease_desk.specs.declared.lease.Lease.TheVariants as lease
 use Rattle.lease_desk.specs.declared.lease.PageLease.{PageLease}
 use Rattle.lease_desk.specs.Desk.{granted, is_held, is_ready, is_recalled, is_releasing, lease_of, recalled, released, releasing}
-use Rattle.master_model.specs.Tags.{tags_on, with_tags, without_page}
+use Rattle.lock_table.specs.Tags.{tags_on, with_tags, without_page}
 use Rattle.master_model.specs.declared.left.Left.{Left}
 use Rattle.master_model.specs.State.{Work, Effect, ignored, page_named, settled, to_locks, vector_of}
 use Rattle.master_model.specs.Fates.{is_ended, is_own}

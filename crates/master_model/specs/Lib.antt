@@ -1,4 +1,3 @@
-pub mod Tags
 pub mod State
 pub mod Fates
 pub mod Paths

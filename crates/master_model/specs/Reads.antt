@@ -9,7 +9,7 @@ use Rattle.tm_data.specs.declared.row.Row.{Row}
 use Rattle.tm_data.specs.declared.transaction.Page.{Page}
 use Rattle.tm_data.specs.declared.transaction.Txn.{Txn}
 use Rattle.tm_base.specs.declared.reply.Reply.TheVariants as reply
-use Rattle.master_model.specs.Tags.{same_txn, takes, with_tag}
+use Rattle.lock_table.specs.Tags.{same_txn, takes, with_tag}
 use Rattle.master_model.specs.declared.session.Own.{Own}
 use Rattle.master_model.specs.declared.session.Progress.{Progress}
 use Rattle.master_model.specs.declared.session.Progress.TheVariants.{Active}

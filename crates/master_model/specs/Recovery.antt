@@ -31,7 +31,7 @@ use Rattle.tm_base.specs.declared.reply.RecoveryWait.TheVariants as wait
 use Rattle.tm_base.specs.declared.reply.Reply.{Reply}
 use Rattle.tm_base.specs.declared.reply.Reply.TheVariants as reply
 use Rattle.page_model.specs.Effects.{page_of}
-use Rattle.master_model.specs.Tags.{same_txn}
+use Rattle.lock_table.specs.Tags.{same_txn}
 use Rattle.master_model.specs.declared.recovery.Stage.{Stage}
 use Rattle.master_model.specs.declared.recovery.Stage.TheVariants.{Seal, Close, Scan, Take, Undo, Told, Over}
 use Rattle.master_model.specs.State.{Work, Life, Recovery, Answer, message, page_named, to_locks, vector_of, writer_of}

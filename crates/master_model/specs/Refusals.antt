@@ -23,7 +23,7 @@ use Rattle.lease_desk.specs.Desk.{lease_of}
 use Rattle.master_model.specs.declared.recovery.Stage.TheVariants.{Seal, Close, Scan, Take, Undo, Told, Over}
 use Rattle.master_model.specs.declared.session.Own.{Own}
 use Rattle.master_model.specs.declared.session.Progress.TheVariants.{Active}
-use Rattle.master_model.specs.Tags.{tags_on}
+use Rattle.lock_table.specs.Tags.{tags_on}
 use Rattle.master_model.specs.State.{Work, Life, Recovery, to_locks, writer_of}
 use Rattle.master_model.specs.Fates.{is_ended, is_own}
 use Rattle.master_model.specs.Paths.{asks_for, here}

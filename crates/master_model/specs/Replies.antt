@@ -21,7 +21,7 @@ use Rattle.page_model.specs.Splits.{images_on, is_full, full_pages, page_above}
 use Rattle.page_model.specs.Tree.{level_of, path_of}
 use Rattle.master_model.specs.declared.session.Own.{Own}
 use Rattle.master_model.specs.declared.session.Progress.TheVariants.{Active, Ended}
-use Rattle.master_model.specs.Tags.{foreign_on, others_on, same_txn, tags_on}
+use Rattle.lock_table.specs.Tags.{foreign_on, others_on, same_txn, tags_on}
 use Rattle.master_model.specs.State.{Work, Life, durable, writer_of}
 use Rattle.master_model.specs.Fates.{is_ended}
 use Rattle.master_model.specs.Paths.{here, last_of, row_at}

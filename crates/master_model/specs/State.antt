@@ -22,7 +22,7 @@ use Rattle.vs_clock.specs.State as clock
 use Rattle.vs_clock.specs.State.{sending}
 use Rattle.log_writer.specs.Log.{Log, durable_seq, durable_stamp, settled as settled_at}
 use Rattle.lease_desk.specs.Desk.{Leases}
-use Rattle.master_model.specs.Tags.{Tags}
+use Rattle.lock_table.specs.Tags.{Tags, no_tags}
 use Rattle.master_model.specs.declared.left.Left.{Left}
 use Rattle.master_model.specs.declared.recovery.Stage.{Stage}
 use Rattle.master_model.specs.declared.session.Own.{Own}
@@ -73,7 +73,7 @@ joined number stores writer start = record {
   leases = fin.empty;
   left = fin.empty;
   pool = pool [] places;
-  tags = sets.empty;
+  tags = no_tags;
   begun = 0;
   sessions = fin.empty;
   ended = sets.empty;

@@ -18,7 +18,7 @@ use Rattle.tm_base.specs.declared.message.Note.TheVariants as note
 use Rattle.tm_base.specs.declared.reply.Reply.TheVariants as reply
 use Rattle.page_model.specs.Tree.{Images}
 use Rattle.page_model.specs.Splits.{Halves, Refusal, TooHigh, Wanting, images_on, is_full, full_pages, halves, page_above, plan_of}
-use Rattle.master_model.specs.Tags.{Tags, foreign_on, moved, others_on, same_txn}
+use Rattle.lock_table.specs.Tags.{Tags, foreign_on, moved, others_on, same_txn}
 use Rattle.master_model.specs.declared.session.Own.{Own}
 use Rattle.master_model.specs.State.{Work, Answer, answers, says, to_locks, writer_of}
 use Rattle.master_model.specs.Fates.{blocked, blocked_by_tags, unless}

@@ -7,7 +7,7 @@
 //! message has that the format of messages can spell.
 ghost use Rattle.std.specs.Prelude.{◌≡◌, ◌⊎◌, ℕ, Bool, true, List, [], Option, None, Some};
 ghost use Rattle.std.specs.List.{AllByRecursion};
-ghost use Rattle.std.specs.FinSet as sets;
+ghost use Rattle.std.specs.FinMap as fin;
 ghost use Rattle.log_writer.specs.Log.{resent, unacked};
 ghost use Rattle.tm_base.specs.declared.command.Command.{Command};
 ghost use Rattle.tm_base.specs.declared.command.Command.TheVariants as command;
@@ -16,7 +16,7 @@ ghost use Rattle.tm_base.specs.declared.message.Note.TheVariants as note;
 ghost use Rattle.tm_base.specs.declared.reply.Reply.TheVariants as reply;
 ghost use Rattle.master_model.specs.State.{Life, State, Work};
 ghost use Rattle.master_model.specs.Fates.{has_ended, is_open, is_own};
-ghost use Rattle.master_model.specs.Tags.{PageTag};
+ghost use Rattle.lock_table.specs.Tags.{PageTag};
 ghost use Rattle.master_model.specs.Reads.{get};
 ghost use Rattle.master_model.specs.Replies.{MayGetIn, MayPutIn, PathIsHere, QuietOrAsking, Reads, SaysDurableIn, SaysEndIn};
 ghost use Rattle.master_model.specs.Step.{on_command, start, step, tick};
@@ -73,7 +73,7 @@ pub fn own_locks_are_of_begun_transactions()
 /// And so each of them is of an open transaction: of a session's, whose end isn't durable. Refused are a session that
 /// is free while its transaction has locks, and an abort that is durable and leaves its locks.
 pub fn an_own_lock_is_of_an_open_transaction()
-    ensures { (begun : ℕ) (w : Work) (t : PageTag) → WorkFacts begun w → TagsAreBegun w → sets.contains w.tags t ≡ true → is_own w t.txn ≡ true → is_open w t.txn.number ≡ true }
+    ensures { (begun : ℕ) (w : Work) (t : PageTag) → WorkFacts begun w → TagsAreBegun w → fin.contains_key w.tags t ≡ true → is_own w t.txn ≡ true → is_open w t.txn.number ≡ true }
 {}
 
 /// What a log store lacks is the log's: each group that it hasn't acknowledged, and so each one that is sent to it

@@ -1,15 +1,14 @@
-use Rattle.std.proofs.Common.{◌≡◌, ◌++◌, ◌∷◌, ℕ, List, length, remove, ap, sym, subst, ◌∙◌}
-use Rattle.std.specs.declared.option.Option.{Option}
-use Rattle.std.specs.Prelude.{filter}
-use Rattle.std.specs.FinMap.{get}
+use Rattle.std.proofs.Common.{◌≡◌, ◌++◌, ◌∷◌, ℕ, List, true, false, ap, sym, subst, ◌∙◌}
+use Rattle.std.specs.Prelude.{nat_eq}
 use Rattle.std.specs.declared.option.Option.TheVariants.{None, Some}
+use Rattle.std.specs.declared.option.Option.{Option}
+use Rattle.tm_data.specs.declared.transaction.Txn.{Txn}
 use Rattle.lock_table.specs.declared.node.Node.{Node}
-use Rattle.lock_table.specs.Tags.{PageTag, is_on}
-use Rattle.lock_table.specs.Inside.{Entry, Reorders, places, on, upto, tag_in, tag_at, tag_of_node}
-use Rattle.lock_table.proofs.Filters.{all_filter, Here}
-use Rattle.lock_table.proofs.Tables.{all_at}
-use Rattle.lock_table.proofs.Halves.{unkept, reordered, order_of, order_without, elsewhere}
-use Rattle.lock_table.proofs.Values.{ascend_filter}
+use Rattle.lock_table.specs.Tags.{PageTag, is_on, same_txn}
+use Rattle.lock_table.specs.Inside.{Entry, is_of, tag_in, tag_at, tag_of_node}
+use Rattle.lock_table.proofs.Tables.{all_at, on_itself, txn_itself, is_same_txn}
+use Rattle.lock_table.proofs.Filters.{mid_no, Here}
+use Rattle.lock_table.proofs.Halves.{all_ordered, same_page}
 use Rattle.lock_table.proofs.seek.strike.Goals as goal
 
 tag_is : (at : ℕ → Option PageTag) (key : ℕ) (n : Node) (t : PageTag) (xs ys : List Entry) → at key ≡ Some (tag_in n) → Here at (xs ++ (key, t) ∷ ys) → t ≡ tag_in n
@@ -21,25 +20,21 @@ returns-in_default c = λ xs ys t a h o.
     let none : tag_at c.args.nodes.now c.args.key ≡ None = ap tag_of_node (sym c.in_default.ensures) in
     absurd (cc (there, none))
 
-pub returns-in_default-get : goal.returns-in_default-get
-returns-in_default-get c = λ xs ys t a h o.
-    let n : Node = c.in-Some.node.now in
-    let same : t ≡ tag_in n = tag_is (tag_at c.args.nodes.now) c.args.key n t xs ys (ap tag_of_node (sym c.in-Some.ensures)) h in
-    let none : get c.args.orders.now t.page ≡ None = ap (λ (z : PageTag). get c.args.orders.now z.page) same ∙ sym c.in_default-get.ensures in
-    unkept c.args.orders.now t.page (xs ++ (c.args.key, t) ∷ ys) (xs ++ ys) none (λ q is. sym (elsewhere t c.args.key xs ys q is)) o
-
 pub returns : goal.returns
 returns c = λ xs ys t a h o.
     let n : Node = c.in-Some.node.now in
     let key = c.args.key in
-    let same : t ≡ tag_in n = tag_is (tag_at c.args.nodes.now) key n t xs ys (ap tag_of_node (sym c.in-Some.ensures)) h in
+    let p = n.page.0 in
+    let x = n.tag.txn in
+    let old = c.args.orders.now in
     let mid : List Entry = xs ++ (key, t) ∷ ys in
-    let part : List Entry = filter (on n.page.0) mid in
-    let kept = order_of c.args.orders.now n.page.0 c.in-Some-get.order.now mid c.in-Some-get.ensures o in
-    let at = c.below-at.ensures.count part (c.as_slice.ensures ∙ kept) (ascend_filter (is_on n.page.0) mid a) (all_filter (λ e. tag_at c.args.nodes.now e.0 ≡ Some e.1) (is_on n.page.0) mid h) in
-    let kept' = subst (λ (z : PageTag). c.in-Some-get.order.now ≡ places (filter (on z.page) mid)) (sym same) kept in
-    let at' = subst (λ (z : PageTag). c.below-at.result ≡ length (upto z (filter (on z.page) mid))) (sym same) at in
-    let w = order_without t key c.below-at.result c.in-Some-get.order.now xs ys a kept' at' in
-    let done = c.remove.ensures c.in-Some-get.order.now (sym c.in-Some-get.ensures) w.0 in
-    let done' = subst (λ (z : PageTag). Reorders c.args.orders.now c.remove.new.self z.page (remove c.in-Some-get.order.now c.below-at.result)) (sym same) done in
-    reordered c.args.orders.now c.remove.new.self t.page (remove c.in-Some-get.order.now c.below-at.result) mid (xs ++ ys) done' w.1 (λ q is. sym (elsewhere t key xs ys q is)) o
+    let same : t ≡ tag_in n = tag_is (tag_at c.args.nodes.now) key n t xs ys (ap tag_of_node (sym c.in-Some.ensures)) h in
+    let page_is : t.page ≡ p = ap (λ (z : PageTag). z.page) same in
+    let txn_is : t.txn ≡ x = ap (λ (z : PageTag). z.txn) same in
+    let yes_p : is_on p t ≡ true = subst (λ (z : ℕ). is_on z t ≡ true) page_is (on_itself t.page) in
+    let yes_t : is_of x t ≡ true = subst (λ (z : Txn). is_of z t ≡ true) txn_is (txn_itself t.txn) in (
+      all_ordered nat_eq same_page is_on old.pages c.strike_list.new.orders p mid (xs ++ ys) (c.strike_list.ensures.here (is_on p) xs ys t yes_p a h (o.0 p)) c.strike_list.ensures.others
+          (λ k is. sym (mid_no (is_on k) (key, t) xs ys (subst (λ (z : ℕ). nat_eq z k ≡ false) (sym page_is) is))) o.0,
+      all_ordered same_txn is_same_txn is_of old.txns c.strike_list-2.new.orders x mid (xs ++ ys) (c.strike_list-2.ensures.here (is_of x) xs ys t yes_t a h (o.1 x)) c.strike_list-2.ensures.others
+          (λ k is. sym (mid_no (is_of k) (key, t) xs ys (subst (λ (z : Txn). same_txn z k ≡ false) (sym txn_is) is))) o.1,
+    )

@@ -1,12 +1,5 @@
-use Rattle.std.proofs.Common.{ap, ◌∙◌}
-use Rattle.std.specs.Cmp.{nat_cmp_total}
-use Rattle.std.specs.Ordering.{nat_cmp}
-use Rattle.std.specs.FinMap.{FinMap, remove, nat_cmp-IsAntisymmetric}
-use Rattle.tm_data.specs.Maps.{remove-as_map}
-use Rattle.lock_table.specs.declared.heads.Head.{Head}
+use Rattle.lock_table.proofs.Hashed.{page_drops}
 use Rattle.lock_table.proofs.heads.PageHeads.remove.Goals as goal
 
 pub returns : goal.returns
-returns c =
-    remove-as_map nat_cmp_total nat_cmp-IsAntisymmetric c.self.inside.heads c.remove.new.self c.args.page c.remove.ensures.updates.0
-    ∙ ap (λ (m : FinMap nat_cmp Head). remove m c.args.page) c.self.view_is
+returns c = page_drops c.self.inside.heads.entries c.remove.new.self.entries c.args.self.now c.args.page c.remove.ensures.updates.0 c.self.view_is

@@ -1,5 +1,6 @@
 use Rattle.std.proofs.Common.{◌≡◌, ap, sym, subst, ◌∙◌}
-use Rattle.std.specs.Prelude.{filter}
+use Rattle.std.specs.Prelude.{filter, nat_eq}
+use Rattle.std.specs.Map.{lookup}
 use Rattle.lock_table.specs.declared.heads.Head.{Head}
 use Rattle.lock_table.specs.declared.node.Side.TheVariants as side
 use Rattle.lock_table.specs.Inside.{IsList, link_at, head_in, on}
@@ -22,5 +23,5 @@ pub returns : goal.returns
 returns c = λ es l.
     let s = c.args.self.now in
     let p = c.args.page.0 in
-    c.gap_in.ensures (filter (on p) es) (c.as_slice.ensures ∙ order_of s.orders p c.in-Some.order.now es c.in-Some.ensures l.order) (ascend_filter (is_on p) es l.ascend)
+    c.gap_in.ensures (filter (on p) es) (c.as_slice.ensures ∙ order_of (lookup (nat_eq p) s.orders.pages) c.in-Some.order.now (filter (on p) es) c.in-Some.ensures (l.order.0 p)) (ascend_filter (is_on p) es l.ascend)
     (all_filter (λ e. tag_at s.slab e.0 ≡ Some e.1) (is_on p) es l.here)

@@ -1,7 +1,7 @@
-use Rattle.std.proofs.Common.{◌≡◌, ◌++◌, ◌∷◌, ℕ, List, refl, ap, sym, subst, ◌∙◌}
+use Rattle.std.proofs.Common.{◌≡◌, ◌++◌, ◌∷◌, refl, ap, sym, subst, ◌∙◌}
+use Rattle.lock_table.specs.declared.orders.Orders.{Orders}
 use Rattle.lock_table.specs.Tags.{PageTag, tag_of}
-use Rattle.std.specs.FinMap.{FinMap, get}
-use Rattle.std.specs.Ordering.{nat_cmp}
+use Rattle.std.specs.FinMap.{get}
 use Rattle.std.specs.declared.option.Option.TheVariants.{Some}
 use Rattle.lock_table.specs.declared.node.Side.TheVariants as side
 use Rattle.lock_table.specs.declared.nodes.Nodes.{Nodes}
@@ -18,7 +18,7 @@ returns-clause-removed g c = λ xs ys t l.
       removed_by s.slab c.remove-node.new.self (rejoined side.Page c.remove-node.new.self n.on_page n.on_page) c.unlink.new.self.slab s.pages c.unlink.new.self.pages s.txns c.shorten_txn.new.txns s.orders c.unlink.new.self.orders n c.args.key xs ys c.remove-node.ensures.value c.remove-node.ensures.updates refl
           (ap (λ (z : Nodes). z.slab) c.unlink.ensures) (ap (λ (z : Nodes). z.pages) c.unlink.ensures) (c.shorten_txn.ensures ∙ ap (λ (z : Nodes). kept z.txns n.tag.txn (shorter (head_in (get z.txns n.tag.txn)) n.of_txn)) c.unlink.ensures)
           (subst (λ (z : PageTag). Stand s (xs ++ (c.args.key, z) ∷ ys)) same l)
-          (subst (λ (z : FinMap nat_cmp (List ℕ)). AreOrdered z (xs ++ ys)) (sym (ap (λ (z : Nodes). z.orders) c.unlink.ensures)) (c.strike.ensures xs ys t l.ascend l.here l.order)),
+          (subst (λ (z : Orders). AreOrdered z (xs ++ ys)) (sym (ap (λ (z : Nodes). z.orders) c.unlink.ensures)) (c.strike.ensures xs ys t l.ascend l.here l.order)),
     )
 
 pub returns-clause-others : goal.returns-clause-others
