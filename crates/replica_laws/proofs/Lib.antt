@@ -1,0 +1,4 @@
+pub mod LeastLemmas
+pub mod RunLemmas
+pub mod LifeLemmas
+pub mod RepeatLemmas
