@@ -75,9 +75,6 @@ publish_point s None number v h = by (nat_lt (length s.points) 65536)
     by true = point_more s number v s.order.frontier h
     by false = h
 
-point_at : List (List VectorEntry) → ℕ → Option (List VectorEntry)
-point_at points number = cond (nat_eq number 0) None (slice_get points (number - 1))
-
 input_point : (s : State) (i : Input) (number : ℕ) (v : List VectorEntry) → point s number ≡ Some v → point (after_input s i) number ≡ Some v
 input_point s (Hears m) number v h = ap (λ (points : List (List VectorEntry)). cond (nat_eq number 0) None (slice_get points (number - 1))) (step_points s m) ∙ h
 input_point s Ticks number v h = h
@@ -185,7 +182,7 @@ publish_order s None = by (nat_lt (length s.points) 65536)
     by true = refl
     by false = refl
 
-input_leads : (P : Group → Type 0) (s : State) (i : Input) → BringsIn P i → Leads P s.order (after_input s i).order
+pub input_leads : (P : Group → Type 0) (s : State) (i : Input) → BringsIn P i → Leads P s.order (after_input s i).order
 input_leads P s (Hears m) h = note_leads P (heard s m.stamp.0) m.from m.stamp.0 m.note h
 input_leads P s Ticks h = stays P s.order
 input_leads P s (Publishes bound) h = subst (Leads P s.order) (sym (publish_order s (uncovered s.order.frontier bound))) (stays P s.order)

@@ -101,7 +101,7 @@ ready_among o [] = refl
 ready_among o (e ∷ es) = ap (or_later (ready_at o e)) (ready_among o es)
 
 -- the groups that wait are the writer's own
-all_onto : (P : Group → Type 0) (gs xs : List Group) → AllByRecursion P (onto gs xs) → AllByRecursion P gs × AllByRecursion P xs
+pub all_onto : (P : Group → Type 0) (gs xs : List Group) → AllByRecursion P (onto gs xs) → AllByRecursion P gs × AllByRecursion P xs
 all_onto P gs [] h = (h, tt)
 all_onto P gs (x ∷ xs) h = let both = all_onto P (x ∷ gs) xs h in (both.0.1, (both.0.0, both.1))
 

@@ -19,10 +19,11 @@ use Rattle.replica_laws.specs.Lives.{Hears, Input, Publishes, Ticks, lives}
 abbrev pub ComesAfter : Group → Group → Type 0
 ComesAfter g h = h.writer.0 ≡ g.writer.0 → (h.seq < g.seq) × (h.stamp.0 < g.stamp.0)
 
--- A group that was logged after these entries: its number is the next of its writer's one list or a later one, its stamp above
--- the stamps there; and its bound is at most the join of its causes' bounds.
+-- A group that was logged after these entries: its number and its stamp are above those of its writer's groups there; and its
+-- bound is at most what its causes' bounds make there.
 pub record IsLogged (past : List Entry) (bound : Bound) (g : Group) : Type 0 where
   pub number : 1 ≤ g.seq
+  pub stamp : 1 ≤ g.stamp.0
   pub learnt : IsVector g.learnt
   pub later : AllByRecursion (ComesAfter g) (groups past)
   pub causes : AtMost bound (group_bound past g)

@@ -1,6 +1,9 @@
 //! The laws of the order of groups, of points, and of what is applied as a cut of a history.
+ghost use Rattle.replica_laws.specs.ClosedCuts.{FrontiersAreCuts, PointsAreCuts};
 ghost use Rattle.replica_laws.specs.Lives.{OrdersRun, OthersChangeNothing, PointsStay, RepeatsChangeNothing, WaitsAreOfTheLeast};
 ghost use Rattle.replica_laws.specs.Runs.{EveryRunHolds};
+
+use history_laws::laws::vector_cuts_are_closed;
 
 /// After every list of groups that were offered and groups that were applied: each applied group came after every group that
 /// its vector names; the frontier is the vector of what was applied; and of each writer what was applied is a front of its
@@ -33,3 +36,21 @@ pub fn orders_run()
 pub fn points_stay()
     ensures { PointsStay }
 {}
+
+/// Where the groups that come are of one history, in which each writer's groups are one list and bounds are in causal order,
+/// the frontier is its own cover, and so a closed cut of the events where bounds order touches; and the groups of the history
+/// in it are exactly those that were applied. Refused is an order that applies a group before what its writer had learnt of
+/// others.
+pub fn frontiers_are_closed_cuts()
+    ensures { FrontiersAreCuts }
+{
+    vector_cuts_are_closed();
+}
+
+/// So is the vector of every point that was ever published in this life. Refused is a point that is published between two
+/// records of one group, or with a vector that names a group which isn't applied.
+pub fn points_are_closed_cuts()
+    ensures { PointsAreCuts }
+{
+    vector_cuts_are_closed();
+}
