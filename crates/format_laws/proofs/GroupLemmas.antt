@@ -32,15 +32,23 @@ groups_brought writer seq after last (g ∷ gs) one fits h =
     let to : g.stamp.0 ≤ last = rises_to writer (seq + 1) g.stamp.0 last gs h.6 in
     (record { learnt = (h.3, omega (arith, h.5, to, fits)); writer = omega (arith, h.0, one); stamp = omega (arith, to, fits) }, groups_brought writer (seq + 1) g.stamp.0 last gs one fits h.6)
 
-logged_stamp : (ls : List Logged) (i : ℕ) → AllByRecursion GroupBrought (groups_in ls) → IsStamp (stamp_of_logged (slice_get ls i))
-logged_stamp [] i h = omega arith
-logged_stamp (l ∷ ls) zero h = h.0.stamp
-logged_stamp (l ∷ ls) (suc i) h = logged_stamp ls i h.1
+-- No stamp of a log is above the last one.
+abbrev Below : ℕ → List Group → Type 0
+Below last gs = AllByRecursion (λ (g : Group). g.stamp.0 ≤ last) gs
 
-pub durable_fits : (ls : List Logged) → AllByRecursion GroupBrought (groups_in ls) → IsStamp (durable_stamp ls)
-durable_fits ls h = by (nat_eq (durable_seq ls) 0) (logged_stamp ls (durable_seq ls - 1) h)
+all_below : (writer seq after last : ℕ) (gs : List Group) → AreGroups writer seq after last gs → Below last gs
+all_below writer seq after last [] h = tt
+all_below writer seq after last (g ∷ gs) h = (rises_to writer (seq + 1) g.stamp.0 last gs h.6, all_below writer (seq + 1) g.stamp.0 last gs h.6)
+
+logged_below : (last : ℕ) (ls : List Logged) (i : ℕ) → Below last (groups_in ls) → stamp_of_logged (slice_get ls i) ≤ last
+logged_below last [] i h = omega arith
+logged_below last (l ∷ ls) zero h = h.0
+logged_below last (l ∷ ls) (suc i) h = logged_below last ls i h.1
+
+pub durable_below : (writer seq after last : ℕ) (ls : List Logged) → AreGroups writer seq after last (groups_in ls) → durable_stamp ls ≤ last
+durable_below writer seq after last ls h = by (nat_eq (durable_seq ls) 0) (logged_below last ls (durable_seq ls - 1) (all_below writer seq after last (groups_in ls) h))
   where
-    by : (b : Bool) → IsStamp (stamp_of_logged (slice_get ls (durable_seq ls - 1))) → IsStamp (stamp_of_logged (cond b None (slice_get ls (durable_seq ls - 1))))
+    by : (b : Bool) → stamp_of_logged (slice_get ls (durable_seq ls - 1)) ≤ last → stamp_of_logged (cond b None (slice_get ls (durable_seq ls - 1))) ≤ last
     by true k = omega arith
     by false k = k
 

@@ -5,6 +5,7 @@ use Rattle.std.specs.Ordering.{nat_cmp}
 use Rattle.std.specs.FinMap.{FinMap}
 use Rattle.std.specs.FinMap as fin
 use Rattle.tm_data.specs.declared.log.Group.{Group}
+use Rattle.tm_data.specs.Vectors.{IsVector, greatest}
 use Rattle.tm_base.specs.declared.command.Command.{Command}
 use Rattle.tm_base.specs.declared.message.Message.{Message}
 use Rattle.tm_base.specs.declared.message.Node.{Node}
@@ -17,7 +18,7 @@ use Rattle.lease_desk.specs.Desk.{Leases, lease_of}
 use Rattle.master_model.specs.declared.left.Left.{Left}
 use Rattle.master_model.specs.declared.recovery.Stage.{Stage}
 use Rattle.master_model.specs.declared.recovery.Stage.TheVariants.{Seal, Close, Scan, Take, Undo}
-use Rattle.master_model.specs.State.{Work, Life, State, Recovery}
+use Rattle.master_model.specs.State.{Work, Life, State, Recovery, vector_of}
 use Rattle.master_model.specs.Recovery.{in_turn}
 use Rattle.master_model.specs.Step as does
 use Rattle.master_model.specs.Step.{on_command, step}
@@ -29,7 +30,7 @@ use Rattle.master_model.proofs.StepMoves.{command_moves, note_moves, turn_brough
 use Rattle.format_laws.specs.Kept.{LeftIsSpelled, LifeIsSpelled, ScannedAreSpelled, WorkIsSpelled}
 use Rattle.format_laws.specs.Spelled.{AllSpelled, AreStamps, IsStamp, NoteIsSpelled}
 use Rattle.format_laws.proofs.GroupLemmas.{groups_brought, part_fits}
-use Rattle.format_laws.proofs.WorkLemmas.{spelled_moves, vector_brought}
+use Rattle.format_laws.proofs.WorkLemmas.{spelled_moves, vector_brought, vector_within}
 
 -- ---- the log
 
@@ -38,6 +39,9 @@ log_brought begun w f =
     let s = f.of_clock.sound in
     let one : 1 ≤ w.log.writer.0 = omega (arith, s.from_one, f.of_clock.writer) in
     groups_brought w.log.writer.0 1 begun w.clock.scalar (groups_of w.log) one s.scalar_fits f.of_log.groups
+
+pub told_within : (begun : ℕ) (w : Work) → WorkFacts begun w → IsVector (vector_of w) × (greatest (vector_of w) ≤ w.clock.scalar)
+told_within begun w f = vector_within begun w (f.of_log, f.of_clock)
 
 -- ---- what a recovery has read
 

@@ -6,7 +6,7 @@ use Rattle.tm_data.specs.Vectors.{IsVector, greatest, joined}
 use Rattle.tm_data.proofs.VectorLemmas.{greatest_least, joined_ascends, joined_stamp, stamp_greatest}
 use Rattle.master_model.specs.Facts.{Brought}
 
-joined_greatest : (a b : List VectorEntry) → IsVector a → IsVector b → greatest (joined a b) ≤ max (greatest a) (greatest b)
+pub joined_greatest : (a b : List VectorEntry) → IsVector a → IsVector b → greatest (joined a b) ≤ max (greatest a) (greatest b)
 joined_greatest a b h k =
     greatest_least 0 (joined a b) (max (greatest a) (greatest b)) (joined_ascends 0 a b h k)
     (λ w. omega (arith, joined_stamp a b w h k, stamp_greatest a w, stamp_greatest b w))

@@ -1,5 +1,5 @@
 -- What a master keeps of pages can be spelled after each move.
-use Rattle.std.proofs.Common.{◌≡◌, ◌≤◌, ◌-◌, ◌^◌, ℕ, Bool, true, false, List, [], ◌∷◌, Option, Some, None, refl, ap, sym, subst, ◌∙◌, cond, arith}
+use Rattle.std.proofs.Common.{◌≡◌, ◌≤◌, ℕ, Bool, true, false, List, [], ◌∷◌, Option, Some, None, refl, ap, sym, subst, ◌∙◌, cond, arith}
 use Rattle.std.specs.Prelude.{nat_eq, nat_lt, ◌&&◌}
 use Rattle.std.specs.Ordering.{nat_cmp}
 use Rattle.std.specs.FinMap.{FinMap}
@@ -7,8 +7,9 @@ use Rattle.std.specs.FinMap as fin
 use Rattle.std.proofs.lemmas.Bool.Decides.{nat_tests}
 use Rattle.tm_data.specs.declared.image.Image.{Image}
 use Rattle.tm_data.specs.declared.transaction.Stamp.{Stamp}
-use Rattle.tm_data.specs.Vectors.{greatest, single}
-use Rattle.tm_data.proofs.VectorLemmas.{single_is_vector}
+use Rattle.tm_data.specs.declared.vector.VectorEntry.{VectorEntry}
+use Rattle.tm_data.specs.Vectors.{IsVector, greatest, single}
+use Rattle.tm_data.proofs.VectorLemmas.{joined_ascends, single_is_vector}
 use Rattle.lease_desk.specs.declared.lease.Lease.TheVariants as lease
 use Rattle.lease_desk.specs.declared.lease.PageLease.{PageLease}
 use Rattle.lease_desk.specs.Desk as desk
@@ -17,30 +18,36 @@ use Rattle.log_writer.specs.Log.{durable_stamp}
 use Rattle.master_model.specs.declared.left.Left.{Left}
 use Rattle.master_model.specs.State.{Work, vector_of}
 use Rattle.master_model.specs.Leases.{gives_back, left_of, with_images}
-use Rattle.master_model.specs.Facts.{Brought, groups_of}
+use Rattle.master_model.specs.Facts.{Brought}
 use Rattle.master_model.proofs.FactLemmas.{Front, front_moves}
 use Rattle.master_model.proofs.LeaseLemmas.{kept_here, kept_other, lease_here, lease_other, removed_here, removed_other}
 use Rattle.master_model.proofs.Moves.{Closed}
 use Rattle.format_laws.specs.Kept.{LeftIsSpelled, WorkIsSpelled}
 use Rattle.format_laws.specs.Spelled.{IsStamp}
-use Rattle.format_laws.proofs.GroupLemmas.{durable_fits, groups_brought}
-use Rattle.format_laws.proofs.VectorLemmas.{joined_brought}
+use Rattle.format_laws.proofs.GroupLemmas.{durable_below}
+use Rattle.format_laws.proofs.VectorLemmas.{joined_greatest}
 
 -- ---- the vector for sending
 
-single_brought : (writer stamp : ℕ) → 1 ≤ writer → IsStamp stamp → Brought (single writer stamp)
-single_brought writer stamp one fits = (single_is_vector writer stamp one, by (nat_eq stamp 0))
+single_within : (writer stamp : ℕ) → greatest (single writer stamp) ≤ stamp
+single_within writer stamp = by (nat_eq stamp 0)
   where
-    by : (b : Bool) → greatest (cond b [] (record { writer = record { 0 = writer }; stamp = record { 0 = stamp } } ∷ [])) ≤ 2 ^ 63 - 1
+    by : (b : Bool) → greatest (cond b [] (record { writer = record { 0 = writer }; stamp = record { 0 = stamp } } ∷ [])) ≤ stamp
     by true = omega arith
-    by false = omega (arith, fits)
+    by false = omega arith
+
+pub vector_within : (start : ℕ) (w : Work) → Front start w.log w.clock → IsVector (vector_of w) × (greatest (vector_of w) ≤ w.clock.scalar)
+vector_within start w h =
+    let s = h.1.sound in
+    let own : List VectorEntry = single w.clock.writer (durable_stamp w.log.groups) in
+    let one : IsVector own = single_is_vector w.clock.writer (durable_stamp w.log.groups) s.from_one in
+    let below : durable_stamp w.log.groups ≤ w.clock.scalar = durable_below w.log.writer.0 1 start w.clock.scalar w.log.groups h.0.groups in (
+      joined_ascends 0 w.clock.heard own s.heard_ascends one,
+      omega (arith, joined_greatest w.clock.heard own s.heard_ascends one, s.heard_below, single_within w.clock.writer (durable_stamp w.log.groups), below),
+    )
 
 pub vector_brought : (start : ℕ) (w : Work) → Front start w.log w.clock → Brought (vector_of w)
-vector_brought start w h =
-    let s = h.1.sound in
-    let one : 1 ≤ w.log.writer.0 = omega (arith, s.from_one, h.1.writer) in
-    joined_brought w.clock.heard (single w.clock.writer (durable_stamp w.log.groups)) (s.heard_ascends, omega (arith, s.heard_below, s.scalar_fits))
-    (single_brought w.clock.writer (durable_stamp w.log.groups) s.from_one (durable_fits w.log.groups (groups_brought w.log.writer.0 1 start w.clock.scalar (groups_of w.log) one s.scalar_fits h.0.groups)))
+vector_brought start w h = let v = vector_within start w h in (v.0, omega (arith, v.1, h.1.sound.scalar_fits))
 
 -- ---- leases
 

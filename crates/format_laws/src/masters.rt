@@ -1,11 +1,12 @@
 //! What a master keeps and sends can be spelled.
 ghost use Rattle.std.specs.Prelude.{◌≤◌, ℕ, List};
 ghost use Rattle.std.specs.List.{AllByRecursion};
+ghost use Rattle.tm_data.specs.Vectors.{IsVector, greatest};
 ghost use Rattle.tm_base.specs.declared.command.Command.{Command};
 ghost use Rattle.tm_base.specs.declared.message.Message.{Message};
 ghost use Rattle.master_model.specs.Facts.{Brings, Facts, GroupBrought, WorkFacts, groups_of};
 ghost use Rattle.master_model.specs.Stages.{StagesAreSaid};
-ghost use Rattle.master_model.specs.State.{State, Work};
+ghost use Rattle.master_model.specs.State.{State, Work, vector_of};
 ghost use Rattle.master_model.specs.Step.{on_command, start, step};
 ghost use Rattle.master_model.specs.Told.{Sent};
 ghost use Rattle.format_laws.specs.Kept.{LifeIsSpelled};
@@ -17,6 +18,12 @@ use master_model::laws;
 /// It speaks of the facts of every master alone.
 pub fn a_log_can_be_spelled()
     ensures { (begun : ℕ) (w : Work) → WorkFacts begun w → AllByRecursion GroupBrought (groups_of w.log) }
+{}
+
+/// What a writer tells of others, and of itself, is within its scalar: the vector for sending ascends by writers from 1 on,
+/// has no stamp of 0, and none above the scalar. It speaks of the facts of every master alone.
+pub fn what_is_told_is_within_the_scalar()
+    ensures { (begun : ℕ) (w : Work) → WorkFacts begun w → IsVector (vector_of w) × (greatest (vector_of w) ≤ w.clock.scalar) }
 {}
 
 /// What a master keeps can be spelled, at the start, after each message that can be spelled, and after each command: the stamp
