@@ -23,7 +23,7 @@ use Rattle.replica_laws.proofs.LeastLemmas.{none_not_some, same_some}
 use Rattle.replica_laws.proofs.LifeLemmas.{Brings, BringsIn, Leads, deeds, input_leads, run_order, step_points}
 use Rattle.replica_laws.proofs.RunLemmas.{begun_holds, run_holds}
 use Rattle.replica_laws.proofs.CutLemmas.{Known, run_known}
-use Rattle.replica_laws.proofs.OwnLemmas.{exact, frontier_own}
+use Rattle.replica_laws.proofs.OwnLemmas.{came_after, exact, frontier_own, run_came}
 
 abbrev Own : List Entry → List VectorEntry → Type 0
 Own entries v = IsOwnCover entries (stamp_of v)
@@ -94,7 +94,7 @@ cut_of closed entries v own = record { own = own; closed = λ touches. closed en
 pub frontiers_are_cuts : VectorCutsAreClosed → FrontiersAreCuts
 frontiers_are_cuts closed entries causal number inputs of_it =
     let a = lives_on entries causal (start number) inputs of_it (begins entries number) in
-    (a.past, a.same, a.holds, record { cut = cut_of closed entries a.past.order.frontier (frontier_own entries causal a.past a.holds a.known); exact = exact entries causal a.past a.holds a.known })
+    (a.past, a.same, a.holds, record { cut = cut_of closed entries a.past.order.frontier (frontier_own entries causal a.past a.holds a.known); causes = came_after entries causal a.past.applied (run_came entries a.past a.holds a.known); exact = exact entries causal a.past a.holds a.known })
 
 got : {X : Type 0} (P : X → Type 0) (xs : List X) (i : ℕ) (x : X) → AllByRecursion P xs → slice_get xs i ≡ Some x → P x
 got P [] i x all is = absurd (none_not_some x is)

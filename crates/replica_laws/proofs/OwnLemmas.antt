@@ -16,7 +16,7 @@ use Rattle.history_model.specs.Bounds.{AtMost, IsOwnCover, cover, group_bound, h
 use Rattle.history_laws.proofs.CoverLemmas.{covers_least}
 use Rattle.history_laws.proofs.ListLemmas.{all_split, among_all}
 use Rattle.replica_laws.specs.Runs.{CausesCameFirst, Holds, Past, learnt, of, vector}
-use Rattle.replica_laws.specs.ClosedCuts.{ComesAfter, IsCausal, IsLogged, IsMade}
+use Rattle.replica_laws.specs.ClosedCuts.{CameAfterCauses, ComesAfter, IsCausal, IsLogged, IsMade}
 use Rattle.replica_laws.proofs.LeastLemmas.{none_not_some, same_some}
 use Rattle.replica_laws.proofs.CutLemmas.{Counted, IsGood, IsSound, Known, all_of, applied_counted, applied_under, at_own, by_place, counted_head, counted_rest, in_left, in_order, made_at, numbered_has, out_of, raises, sound_from, vector_is}
 
@@ -287,3 +287,13 @@ exact entries causal p h known g there = (
 pub frontier_own : (entries : List Entry) → IsCausal entries → (p : Past) → Holds p → Known (groups entries) p → IsOwnCover entries (stamp_of p.order.frontier)
 frontier_own entries causal p h known =
     subst (λ (v : List VectorEntry). IsOwnCover entries (stamp_of v)) (sym h.frontier) (all_own entries causal p.applied (run_came entries p h known))
+
+pub came_after : (entries : List Entry) → IsCausal entries → (gs : List Group) → Came entries gs → CameAfterCauses entries gs
+came_after entries causal [] came = tt
+came_after entries causal (g ∷ gs) came = (
+  (λ h there is.
+      let low : h.stamp.0 ≤ stamp_of (joined (learnt (of g.writer.0 gs)) g.learnt) h.writer.0 =
+      le_of h.stamp.0 (stamp_of (joined (learnt (of g.writer.0 gs)) g.learnt) h.writer.0) is in
+      under_applied entries causal gs (rest entries g gs came) h there (omega (arith, low, came.causes.0 h.writer.0))),
+  came_after entries causal gs (rest entries g gs came),
+)

@@ -4,7 +4,7 @@ use Rattle.std.specs.List.{AllByRecursion}
 use Rattle.std.specs.declared.option.Option.TheVariants.{Some}
 use Rattle.tm_data.specs.declared.log.Group.{Group}
 use Rattle.tm_data.specs.declared.vector.VectorEntry.{VectorEntry}
-use Rattle.tm_data.specs.Vectors.{IsVector, stamp_of}
+use Rattle.tm_data.specs.Vectors.{IsVector, joined, stamp_of}
 use Rattle.tm_base.specs.declared.message.Note.{Note}
 use Rattle.tm_base.specs.declared.message.Note.TheVariants as note
 use Rattle.page_model.specs.Lists.{Among}
@@ -12,7 +12,7 @@ use Rattle.key_model.specs.Cuts.{IsClosed, of_vector}
 use Rattle.history_model.specs.History.{Bound, Deed, Entry, Logs, Reads, events, groups, has}
 use Rattle.history_model.specs.Bounds.{AtMost, BoundsOrderTouches, IsOwnCover, group_bound}
 use Rattle.replica_model.specs.State.{point, start}
-use Rattle.replica_laws.specs.Runs.{Holds, Past}
+use Rattle.replica_laws.specs.Runs.{Holds, Past, learnt, of}
 use Rattle.replica_laws.specs.Lives.{Hears, Input, Publishes, Ticks, lives}
 
 -- The group comes after this one in its writer's list, if it is one writer's: numbers and stamps rise.
@@ -55,9 +55,16 @@ pub record IsClosedCut (entries : List Entry) (v : List VectorEntry) : Type 0 wh
   pub own : IsOwnCover entries (stamp_of v)
   pub closed : BoundsOrderTouches entries → IsClosed (events entries) (of_vector v)
 
--- Of a history, a replica's frontier is a closed cut, and has exactly the groups that were applied.
+-- Each group came after every group of the history that is in its vector: what its writer had learnt up to it.
+abbrev pub CameAfterCauses : List Entry → List Group → Type 0
+CameAfterCauses entries [] = Unit {0}
+CameAfterCauses entries (g ∷ gs) =
+    ((h : Group) → Among h (groups entries) → has (of_vector (joined (learnt (of g.writer.0 gs)) g.learnt)) h ≡ true → Among h gs) × CameAfterCauses entries gs
+
+-- Of a history, a replica's frontier is a closed cut, and has exactly the groups that were applied, each after its causes.
 pub record FrontierIsCut (entries : List Entry) (p : Past) : Type 0 where
   pub cut : IsClosedCut entries p.order.frontier
+  pub causes : CameAfterCauses entries p.applied
   pub exact : (g : Group) → Among g (groups entries) → (has (of_vector p.order.frontier) g ≡ true) ↔ Among g p.applied
 
 abbrev pub FrontiersAreCuts : Type 0
