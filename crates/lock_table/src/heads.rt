@@ -2,7 +2,7 @@
 ghost use Rattle.std.specs.Prelude.{◌≡◌, ◌+◌, ◌<◌, ◌≤◌, ◌^◌, OnOk, OnErr, IsSome, None, nat_le};
 ghost use Rattle.std.specs.FinMap.{empty};
 ghost use Rattle.std.specs.FinMap as map;
-ghost use Rattle.lock_table.specs.Inside.{head_without, head_with};
+ghost use Rattle.lock_table.specs.Inside.{head_in, head_without, head_with, kept, shorter};
 
 use crate::node::Link;
 use std::alloc::Global;
@@ -110,6 +110,20 @@ impl PageHeads {
         let _ = self.put(page, head);
     }
 
+    /// The list of a page has lost a node whose links were these.
+    pub(crate) fn shorten(&mut self, page: u32, link: Link)
+        ensures { self.new ≡ kept self.old page (shorter (head_in (map.get self.old page)) link) }
+    {
+        let Some(head) = self.heads.get_mut(&page) else {
+            return;
+        };
+        let Some(rest) = head.without(link) else {
+            self.remove(page);
+            return;
+        };
+        *head = rest;
+    }
+
     /// Drops the head of a page's list.
     pub(crate) fn remove(&mut self, page: u32)
         ensures { self.new ≡ map.remove self.old page }
@@ -173,6 +187,20 @@ impl TxnHeads {
         ensures { self.new ≡ map.insert self.old txn head }
     {
         let _ = self.put(txn, head);
+    }
+
+    /// The list of a transaction has lost a node whose links were these.
+    pub(crate) fn shorten(&mut self, txn: Txn, link: Link)
+        ensures { self.new ≡ kept self.old txn (shorter (head_in (map.get self.old txn)) link) }
+    {
+        let Some(head) = self.heads.get_mut(&txn) else {
+            return;
+        };
+        let Some(rest) = head.without(link) else {
+            self.remove(txn);
+            return;
+        };
+        *head = rest;
     }
 
     /// Drops the head of a transaction's list.

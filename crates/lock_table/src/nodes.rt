@@ -53,28 +53,6 @@ fn or_empty(head: Option<Head>) -> Head
     }
 }
 
-/// A page's list has lost a node whose links were these.
-fn shorten_page(pages: &mut PageHeads, page: u32, link: Link)
-    ensures { pages.new ≡ kept pages.old page (shorter (head_in (map.get pages.old page)) link) }
-{
-    let head = or_empty(pages.get(page));
-    match head.without(link) {
-        Some(head) => pages.set(page, head),
-        None => pages.remove(page),
-    }
-}
-
-/// A transaction's list has lost a node whose links were these.
-fn shorten_txn(txns: &mut TxnHeads, txn: Txn, link: Link)
-    ensures { txns.new ≡ kept txns.old txn (shorter (head_in (map.get txns.old txn)) link) }
-{
-    let head = or_empty(txns.get(txn));
-    match head.without(link) {
-        Some(head) => txns.set(txn, head),
-        None => txns.remove(txn),
-    }
-}
-
 /// The gap of a list in front of the first tag that isn't below this one.
 fn gap(nodes: &Slab<Node>, side: Side, head: Head, page: Page, key: &Key, txn: Txn) -> Link
     ensures { (es : List Entry) → IsList (link_at side nodes.now) head es → AllByRecursion (λ e. tag_at nodes.now e.0 ≡ Some e.1) es
@@ -281,7 +259,7 @@ impl Nodes {
     {
         rejoin(&mut self.slab, Side::Page, on_page, on_page);
         rejoin(&mut self.slab, Side::Txn, of_txn, of_txn);
-        shorten_page(&mut self.pages, page.0, on_page);
+        self.pages.shorten(page.0, on_page);
     }
 
     /// What stands before and behind these gaps is linked to a node, and its page's list, which has a head, is longer.
@@ -513,7 +491,7 @@ impl Nodes {
         strike(&mut self.orders, &self.slab, key);
         let node = self.slab.remove(key);
         self.unlink(node.page, node.on_page, node.of_txn);
-        shorten_txn(&mut self.txns, node.tag.txn, node.of_txn);
+        self.txns.shorten(node.tag.txn, node.of_txn);
         steps.tick();
         node.tag
     }

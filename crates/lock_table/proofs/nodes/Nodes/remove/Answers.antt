@@ -15,8 +15,8 @@ returns-clause-removed g c = λ xs ys t l.
     let n = c.remove-node.result in
     let same : t ≡ tag_in n = tag_there s.slab s.pages s.txns s.orders n c.args.key t xs ys c.remove-node.ensures.value l in (
       ap tag_of (sym same),
-      removed_by s.slab c.remove-node.new.self (rejoined side.Page c.remove-node.new.self n.on_page n.on_page) c.unlink.new.self.slab s.pages c.unlink.new.self.pages s.txns c.shorten_txn.new.txns s.orders c.unlink.new.self.orders n c.args.key xs ys c.remove-node.ensures.value c.remove-node.ensures.updates refl
-          (ap (λ (z : Nodes). z.slab) c.unlink.ensures) (ap (λ (z : Nodes). z.pages) c.unlink.ensures) (c.shorten_txn.ensures ∙ ap (λ (z : Nodes). kept z.txns n.tag.txn (shorter (head_in (get z.txns n.tag.txn)) n.of_txn)) c.unlink.ensures)
+      removed_by s.slab c.remove-node.new.self (rejoined side.Page c.remove-node.new.self n.on_page n.on_page) c.unlink.new.self.slab s.pages c.unlink.new.self.pages s.txns c.shorten.new.self s.orders c.unlink.new.self.orders n c.args.key xs ys c.remove-node.ensures.value c.remove-node.ensures.updates refl
+          (ap (λ (z : Nodes). z.slab) c.unlink.ensures) (ap (λ (z : Nodes). z.pages) c.unlink.ensures) (c.shorten.ensures ∙ ap (λ (z : Nodes). kept z.txns n.tag.txn (shorter (head_in (get z.txns n.tag.txn)) n.of_txn)) c.unlink.ensures)
           (subst (λ (z : PageTag). Stand s (xs ++ (c.args.key, z) ∷ ys)) same l)
           (subst (λ (z : Orders). AreOrdered z (xs ++ ys)) (sym (ap (λ (z : Nodes). z.orders) c.unlink.ensures)) (c.strike.ensures xs ys t l.ascend l.here l.order)),
     )
