@@ -5,7 +5,6 @@
 #![tactic(auto)]
 
 mod intake;
-mod number_map;
 mod page_store;
 mod share;
 mod state;

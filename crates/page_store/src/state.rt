@@ -10,8 +10,8 @@ ghost use Rattle.store_model.specs.PageStep.{answers, fetch, fetches, message, o
 ghost use Rattle.page_store.specs.Answers.{HasPart, Reads, brings, brings_by, brings_of};
 
 use crate::intake::take_groups;
-use crate::number_map::NumberMap;
 use crate::share::Share;
+use number_map::NumberMap;
 use std::alloc::Global;
 use std::marker::Model;
 use store_model::{Front, ReadRefusal};

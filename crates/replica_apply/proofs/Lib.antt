@@ -1,3 +1,4 @@
 mod LaneLemmas
 mod JoinLemmas
 mod OwnLemmas
+mod WaitingLemmas

@@ -14,22 +14,33 @@ pub(crate) fn first_uncovered(
 ) -> Option<VectorEntry>
     ensures { result ≡ uncovered frontier.now (joined left.now right.now) }
 {
-    let writer = lesser(uncovered_in(frontier, left), uncovered_in(frontier, right))?;
+    let one = writer_of(uncovered_in(frontier, left));
+    let other = writer_of(uncovered_in(frontier, right));
+    let writer = lesser(one, other)?;
     let stamp = Stamp(left.get(writer).0.max(right.get(writer).0));
     Some(VectorEntry { writer, stamp })
 }
 
-// The writer of the first entry that the frontier doesn't cover.
-fn uncovered_in(frontier: &Vector, vector: &Vector) -> Option<Writer>
-    ensures first { result ≡ writer_in (uncovered frontier.now vector.now) }
+/// The first entry of a vector that the frontier doesn't cover.
+pub(crate) fn uncovered_in(frontier: &Vector, vector: &Vector) -> Option<VectorEntry>
+    ensures first { result ≡ uncovered frontier.now vector.now }
     ensures vector { IsVector vector.now }
 {
     for entry in vector.as_slice() {
         if frontier.get(entry.writer).0 < entry.stamp.0 {
-            return Some(entry.writer);
+            return Some(*entry);
         }
     }
     None
+}
+
+fn writer_of(entry: Option<VectorEntry>) -> Option<Writer>
+    ensures { result ≡ writer_in entry }
+{
+    match entry {
+        Some(entry) => Some(entry.writer),
+        None => None,
+    }
 }
 
 // The lesser of two writers, as far as there are two.

@@ -2,6 +2,7 @@
 ghost use Rattle.std.specs.Prelude.{◌≡◌, ◌-◌, ◌<◌, ◌^◌, IfOk, OnOk, OnErr};
 ghost use Rattle.std.specs.Option.{option_copied};
 ghost use Rattle.replica_model.specs.Order.{new_line, ready_in, waits_in};
+ghost use Rattle.replica_model.specs.Step.{is_empty};
 ghost use Rattle.replica_apply.specs.Inside.{at_frontier, first_of, with_waiting, without_next};
 
 use crate::cover::first_uncovered;
@@ -51,6 +52,16 @@ impl Lane {
         ensures { option_copied result ≡ first_of self.now.waiting }
     {
         self.waiting.front()
+    }
+
+    /// Whether no group waits.
+    pub(crate) fn is_idle(&self) -> bool
+        ensures { result ≡ is_empty self.now.waiting }
+    {
+        match self.first() {
+            Some(_) => false,
+            None => true,
+        }
     }
 
     /// The first group that waits, if the frontier covers what it depends on.

@@ -5,6 +5,7 @@ ghost use Rattle.std.specs.Map.Iter.{ShowsInOrder, deref_pair};
 ghost use Rattle.std.specs.Option.{option_copied};
 ghost use Rattle.replica_model.specs.declared.line.Line.{Line};
 ghost use Rattle.replica_model.specs.Order.{or_new};
+ghost use Rattle.replica_model.specs.Step.{is_empty};
 ghost use Rattle.replica_apply.specs.Inside.{first_of, first_in, received, popped};
 
 use crate::lane::Lane;
@@ -50,6 +51,16 @@ impl Lanes {
         match self.lanes.get(&writer.0) {
             Some(lane) => lane.next(),
             None => 1,
+        }
+    }
+
+    /// Whether no group of a writer waits.
+    pub(crate) fn is_idle(&self, writer: Writer) -> bool
+        ensures { result ≡ is_empty (or_new (fin.get self.now writer.0)).waiting }
+    {
+        match self.lanes.get(&writer.0) {
+            Some(lane) => lane.is_idle(),
+            None => true,
         }
     }
 

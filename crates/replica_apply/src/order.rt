@@ -1,13 +1,15 @@
 //! The order of groups.
-ghost use Rattle.std.specs.Prelude.{◌≡◌, IfOk, OnOk, OnErr};
+ghost use Rattle.std.specs.Prelude.{◌≡◌, ◌+◌, IfOk, IfSome, OnOk, OnErr};
 ghost use Rattle.std.specs.Option.{option_copied, option_map};
-ghost use Rattle.replica_model.specs.Order.{nothing, offered, next, after_next, waits};
+ghost use Rattle.replica_model.specs.Order.{line_of, nothing, offered, next, after_next, uncovered, waits};
+ghost use Rattle.replica_model.specs.Step.{is_empty, waiting};
 ghost use Rattle.replica_apply.specs.Inside.{pair_of};
 
+use crate::cover::uncovered_in;
 use crate::lanes::Lanes;
 use std::alloc::Global;
 use std::marker::Model;
-use tm_base::{Group, Mem, Stamp, Vector, Writer};
+use tm_base::{Group, Mem, Stamp, Vector, VectorEntry, Writer};
 
 /// What was received of every writer's log, and what is applied of it. Contracts see the order of `replica_model`.
 #[derive(Drop)]
@@ -50,6 +52,27 @@ impl Order {
         &self.frontier
     }
 
+    /// The first entry of a vector that isn't applied yet: its writer's groups up to its stamp aren't.
+    pub fn lacks(&self, vector: &Vector) -> Option<VectorEntry>
+        ensures { result ≡ uncovered self.now.frontier vector.now }
+    {
+        uncovered_in(&self.frontier, vector)
+    }
+
+    /// The number of a writer's group that comes next, from 1.
+    pub fn next_of(&self, writer: Writer) -> u32
+        ensures { result ≡ (line_of self.now writer.0).next }
+    {
+        self.lanes.next_of(writer)
+    }
+
+    /// Whether no group of the writer waits.
+    pub fn is_idle(&self, writer: Writer) -> bool
+        ensures { result ≡ is_empty (line_of self.now writer.0).waiting }
+    {
+        self.lanes.is_idle(writer)
+    }
+
     /// Receives a group: it waits if it is its writer's next, and is ignored otherwise. With want of memory nothing
     /// changes.
     pub fn offer(&mut self, group: &Group) -> Mem<()>
@@ -65,11 +88,12 @@ impl Order {
         self.lanes.receive(group)
     }
 
-    /// Applies the next group, if there is one: that of the least writer whose vector the frontier covers. With want of
-    /// memory nothing changes.
+    /// Applies the next group, if there is one: that of the least writer whose vector the frontier covers. Then one fewer
+    /// waits. With want of memory nothing changes.
     pub fn next(&mut self) -> Mem<Option<Group>>
         ensures value { IfOk result (λ group. group ≡ next self.old) }
         ensures ok { OnOk result (self.new ≡ after_next self.old (next self.old)) }
+        ensures fewer { IfOk result (λ group. IfSome group (λ _. waiting self.new + 1 ≡ waiting self.old)) }
         ensures err { OnErr result (self.new ≡ self.old) }
     {
         let Some(group) = self.ready() else {

@@ -29,7 +29,7 @@ pub(crate) fn high_of(body: &Body) -> Option<&[u8]>
 }
 
 /// How far the leaves are below what a page holds.
-pub(crate) fn level_of(body: &Body) -> u8
+pub fn level_of(body: &Body) -> u8
     ensures { result ≡ level_of body.now }
 {
     match body {

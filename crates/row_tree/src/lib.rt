@@ -19,6 +19,8 @@ mod plan;
 #[cfg(test)]
 mod tests;
 
+pub use fence::level_of;
 pub use pages::Pages;
 pub use path::{FindError, Path, find};
+pub use place::{Place, child_for, is_at};
 pub use plan::{Plan, PlanError, plan_put};

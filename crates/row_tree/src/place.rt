@@ -10,10 +10,10 @@ use tm_base::{Body, Child, ChildList, Key, Page};
 
 /// A page as its parent gives it: for the keys from the low fence on and below the high one.
 #[derive(Clone, Copy)]
-pub(crate) struct Place<'a> {
-    pub(crate) page: Page,
-    pub(crate) low: Option<&'a [u8]>,
-    pub(crate) high: Option<&'a [u8]>,
+pub struct Place<'a> {
+    pub page: Page,
+    pub low: Option<&'a [u8]>,
+    pub high: Option<&'a [u8]>,
 }
 
 /// How many entries from the first on have keys that are at most this one. It looks at a few by halving.
@@ -37,8 +37,8 @@ fn next_fence<'a>(entries: &'a [Child], at: usize, high: &'a Option<Key>) -> Opt
     Some(entries[at].key.as_slice())
 }
 
-/// The child to which a key leads.
-pub(crate) fn child_for<'a>(
+/// The child to which a key leads. It looks at a few entries by halving.
+pub fn child_for<'a>(
     key: &[u8],
     low: &'a Option<Key>,
     high: &'a Option<Key>,
@@ -76,7 +76,7 @@ fn is_of(table: u16, body: &Body) -> bool
 }
 
 /// Whether what a page holds is of the table and has the fences that the place gives it.
-pub(crate) fn is_at(table: u16, place: &Place<'_>, body: &Body) -> bool
+pub fn is_at(table: u16, place: &Place<'_>, body: &Body) -> bool
     ensures { result ≡ is_at table (place_of place.now) body.now }
 {
     is_of(table, body)

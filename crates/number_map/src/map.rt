@@ -12,7 +12,7 @@ use tm_base::{Mem, NoMemory};
 
 /// A value for each of some numbers. Contracts see the finite map.
 #[derive(Drop)]
-pub(crate) struct NumberMap<V> {
+pub struct NumberMap<V> {
     values: BTreeMap<u32, V>,
 }
 
@@ -31,7 +31,7 @@ impl<V> Model for NumberMap<V> {
 
 impl<V> NumberMap<V> {
     /// No numbers.
-    pub(crate) fn new(alloc: Global) -> NumberMap<V>
+    pub fn new(alloc: Global) -> NumberMap<V>
         ensures { result ≡ fin.empty }
     {
         NumberMap {
@@ -40,14 +40,14 @@ impl<V> NumberMap<V> {
     }
 
     /// The value of a number.
-    pub(crate) fn get(&self, number: u32) -> Option<&V>
+    pub fn get(&self, number: u32) -> Option<&V>
         ensures { option_copied result ≡ fin.get self.now number }
     {
         self.values.get(&number)
     }
 
     /// The numbers with their values, ascending.
-    pub(crate) fn iter(&self) -> Iter<'_, u32, V>
+    pub fn iter(&self) -> Iter<'_, u32, V>
         ensures rest { result ≡ fin.entries self.now }
         ensures runs { ShowsInOrder (deref_pair {K = ℕ} {X = V}) }
     {
@@ -57,7 +57,7 @@ impl<V> NumberMap<V> {
 
 impl<V: Drop> NumberMap<V> {
     /// Sets the value of a number. With want of memory nothing changes.
-    pub(crate) fn insert(&mut self, number: u32, value: V) -> Mem<()>
+    pub fn insert(&mut self, number: u32, value: V) -> Mem<()>
         ensures ok { OnOk result (self.new ≡ fin.insert self.old number value) }
         ensures err { OnErr result (self.new ≡ self.old) }
     {

@@ -3,7 +3,7 @@ use Rattle.std.specs.Ordering.{nat_cmp}
 use Rattle.std.specs.Cmp.{nat_cmp_total}
 use Rattle.std.specs.FinMap.{FinMap, insert, nat_cmp-IsAntisymmetric}
 use Rattle.tm_data.specs.Maps.{insert-as_map}
-use Rattle.page_store.proofs.number_map.NumberMap.insert.Goals as goal
+use Rattle.number_map.proofs.map.NumberMap.insert.Goals as goal
 
 pub returns-clause-ok : goal.returns-clause-ok
 returns-clause-ok g c =

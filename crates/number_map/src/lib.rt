@@ -1,0 +1,8 @@
+//! Values under numbers in an ordered map, which contracts see as a finite map: what a node keeps of each writer.
+#![tactic(auto)]
+
+mod map;
+#[cfg(test)]
+mod tests;
+
+pub use map::NumberMap;
