@@ -36,5 +36,6 @@ mod KeptLemmas
 mod SaidLemmas
 mod DoneLemmas
 mod RestLemmas
+mod LightLemmas
 mod BecauseLemmas
 mod HeardLemmas

@@ -140,7 +140,7 @@ group_rests w g c next less f q = record {
 clock_rests : (w : Work) (c : clock.State) → w.clock.scalar ≤ c.scalar → PagesRest w → PagesRest (record w { clock = c })
 clock_rests w c less f q = rests_later (slice_get w.log.groups (durable_count w.log.groups)) (lease_of w.leases q) w.clock.scalar c.scalar less (f q)
 
-abbrev Apart : Work → Cause → Type 0
+abbrev pub Apart : Work → Cause → Type 0
 Apart w (Acked store seq) = ⊥
 Apart w (GivenBack page) = ⊥
 Apart w other = Unit {0}
@@ -377,7 +377,7 @@ own_rests l writer e f h = by (nat_eq writer.0 (writer_of l.work))
     by true = h
     by false = f
 
-fresh_apart : (w : Work) (writer : Writer) (page : Option Page) → AllowsFresh Apart w writer page
+pub fresh_apart : (w : Work) (writer : Writer) (page : Option Page) → AllowsFresh Apart w writer page
 fresh_apart w writer None = tt
 fresh_apart w writer (Some page) = λ is. tt
 

@@ -337,3 +337,13 @@ PagesRest w = (page : ℕ) → Rests (lease_of w.leases page) (settled w) w.cloc
 abbrev pub LifeRests : Option Life → Type 0
 LifeRests None = Unit {0}
 LifeRests (Some l) = PagesRest l.work
+
+-- ---- the log's length
+
+-- A log has no durable group: all of them were let go.
+abbrev pub HasNoneDurable : Log → Type 0
+HasNoneDurable log = log.gone ≡ durable_seq log
+
+abbrev pub LifeHasNoneDurable : Option Life → Type 0
+LifeHasNoneDurable None = Unit {0}
+LifeHasNoneDurable (Some l) = HasNoneDurable l.work.log

@@ -22,7 +22,7 @@ ghost use Rattle.lock_table.specs.Tags.{PageTag};
 ghost use Rattle.master_model.specs.Reads.{get};
 ghost use Rattle.master_model.specs.Replies.{MayGetIn, MayPutIn, PathIsHere, QuietOrAsking, Reads, SaysDurableIn, SaysEndIn};
 ghost use Rattle.master_model.specs.Step.{on_command, start, step, tick};
-ghost use Rattle.master_model.specs.Facts.{Brings, DurableEnd, EndIsDurable, Facts, GrantIsBegun, JoinsAfter, Lacks, LifeRests, OwnTags, TagsAreBegun, WorkFacts, logged_by, own_txn, whole_of};
+ghost use Rattle.master_model.specs.Facts.{Brings, DurableEnd, EndIsDurable, Facts, GrantIsBegun, JoinsAfter, Lacks, LifeHasNoneDurable, LifeRests, OwnTags, TagsAreBegun, WorkFacts, logged_by, own_txn, whole_of};
 ghost use Rattle.master_model.specs.Goes.{Goes};
 ghost use Rattle.master_model.specs.Told.{IsNamed, MessageFact, Sent};
 ghost use Rattle.master_model.specs.Causes.{AcknowledgesOwn, EpochCame, Joins, LeftSent, WriterStays, epoch_in, is_noted, left_in, roster_in};
@@ -291,6 +291,15 @@ pub fn recalled_pages_go_once_they_may()
     ensures start { (number boot stores : ℕ) → LifeRests (start number boot stores).0.life }
     ensures message { (s : State) (m : Message) → Brings m → LifeRests s.life → LifeRests (step s m).0.life }
     ensures command { (s : State) (session : ℕ) (asked : Command) → LifeRests s.life → LifeRests (on_command s session asked).0.life }
+{}
+
+/// In no state has the log a durable group: each is let go in the step that makes it durable. So a log takes the memory of
+/// the groups that aren't durable, however long its master lives. Refused are an acknowledgement that lets go what was
+/// durable before it and no more, and one that lets nothing go.
+pub fn no_log_has_a_durable_group()
+    ensures start { (number boot stores : ℕ) → LifeHasNoneDurable (start number boot stores).0.life }
+    ensures message { (s : State) (m : Message) → Brings m → LifeHasNoneDurable s.life → LifeHasNoneDurable (step s m).0.life }
+    ensures command { (s : State) (session : ℕ) (asked : Command) → LifeHasNoneDurable s.life → LifeHasNoneDurable (on_command s session asked).0.life }
 {}
 
 /// What a session's command is answered has its cause, and asks for what it names: a master that hasn't joined or is
