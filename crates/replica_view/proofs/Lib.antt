@@ -1,2 +1,4 @@
 mod ApplyLemmas
 mod ReadLemmas
+mod RowLemmas
+mod ScanLemmas

@@ -1,5 +1,5 @@
 -- What the calls of a replica answer. One whose life is over has no state.
-use Rattle.std.specs.Prelude.{◌≡◌, ℕ, List, []}
+use Rattle.std.specs.Prelude.{◌≡◌, ℕ, List, [], ◌∷◌, map}
 use Rattle.std.specs.Option.{option_map}
 use Rattle.std.specs.declared.option.Option.{Option}
 use Rattle.std.specs.declared.option.Option.TheVariants.{None, Some}
@@ -15,9 +15,13 @@ use Rattle.replica_model.specs.State.{State, point}
 use Rattle.replica_model.specs.Step.{Effect, step, ticked}
 use Rattle.replica_model.specs.Reads.{Unpublished, publish}
 use Rattle.replica_model.specs.Reads as unpublished
+use Rattle.tm_data.specs.declared.image.Child.{Child}
 use Rattle.tm_data.specs.declared.image.Image.{Image}
+use Rattle.tm_data.specs.declared.transaction.Page.{Page}
+use Rattle.tm_base.specs.declared.step.Pair as code
+use Rattle.page_model.specs.Tree.{Place, entry_places, first_place}
 use Rattle.page_model.specs.Versions.{Fault}
-use Rattle.replica_model.specs.Reads.{Refused, NoPoint, NoTable, Unfit, stamp_in}
+use Rattle.replica_model.specs.Reads.{Pair, Refused, NoPoint, NoTable, Unfit, after, stamp_in}
 use Rattle.replica_view.specs.declared.error.ViewError.{ViewError}
 use Rattle.replica_view.specs.declared.error.ViewError.TheVariants as view
 use Rattle.replica_view.specs.declared.error.PublishError.{PublishError}
@@ -80,3 +84,26 @@ SeesImage (Err view.NoMemory) given = Unit {0}
 abbrev pub Reads : {X : Type 0} → Result X ViewError → Option State → (State → Result X Refused) → Type 0
 Reads result None given = Sees result (Err NoPoint)
 Reads result (Some s) given = Sees result (given s)
+
+-- ---- scans
+
+-- Keys with their values.
+abbrev pub pairs_of : List code.Pair → List Pair
+pairs_of = map (λ p. (p.key, p.value))
+
+-- What a scan answers.
+abbrev pub listed : Result (List code.Pair) ViewError → Result (List Pair) ViewError
+listed (Ok pairs) = Ok (pairs_of pairs)
+listed (Err why) = Err why
+
+-- A walk adds what the definition gives to the pairs that are there.
+abbrev pub added : Result (Unit {0}) ViewError → List code.Pair → Result (List Pair) ViewError
+added (Ok done) pairs = Ok (pairs_of pairs)
+added (Err why) pairs = Err why
+
+abbrev pub Adds : Result (Unit {0}) ViewError → List code.Pair → List code.Pair → Result (List Pair) Refused → Type 0
+Adds result old new given = Sees (added result new) (after (pairs_of old) given)
+
+-- The children of an inner page, in order.
+abbrev pub places : Option (List ℕ) → Option (List ℕ) → Page → List Child → List Place
+places low high first entries = first_place low high first entries ∷ entry_places high entries

@@ -8,6 +8,7 @@ mod error;
 mod intake;
 mod reads;
 mod replica;
+mod scan;
 mod state;
 
 pub use error::{PublishError, ViewError};

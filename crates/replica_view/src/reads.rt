@@ -84,7 +84,7 @@ impl State {
     }
 
     /// What is at a place at a cut.
-    fn body_at(
+    pub(crate) fn body_at(
         &self,
         cut: &Vector,
         table: u16,
@@ -112,7 +112,7 @@ impl State {
     }
 
     /// The value of a row at a cut: what its transaction wrote, if that has ended there, or else what was there before.
-    fn value_at(&self, cut: &Vector, row: &Row) -> Mem<Option<Value>>
+    pub(crate) fn value_at(&self, cut: &Vector, row: &Row) -> Mem<Option<Value>>
         ensures { IfOk result (λ value. value ≡ value_at self.now cut.now row.entry.now) }
     {
         if self.has_ended(cut, row.txn) {
@@ -192,7 +192,7 @@ fn is_expected(table: u16, place: &Place<'_>, above: Option<u8>, body: &Body) ->
 }
 
 /// Whether there is such a table.
-fn is_table(table: u16) -> bool
+pub(crate) fn is_table(table: u16) -> bool
     ensures { result ≡ is_table table }
 {
     1 <= table && table <= 1024

@@ -1,15 +1,15 @@
 //! The replica.
 ghost use Rattle.std.specs.Prelude.{◌≡◌, IfOk, IsSome, OnErr, Some, None, is_some};
 ghost use Rattle.std.specs.Option.{option_copied};
-ghost use Rattle.replica_model.specs.Reads.{get};
+ghost use Rattle.replica_model.specs.Reads.{get, scan};
 ghost use Rattle.replica_model.specs.State.{start};
-ghost use Rattle.replica_view.specs.Answers.{heard, lag, point_of, Publishes, Reads, ticking};
+ghost use Rattle.replica_view.specs.Answers.{heard, lag, listed, point_of, Publishes, Reads, ticking};
 
 use crate::state::State;
 use crate::{PublishError, ViewError};
 use std::alloc::Global;
 use std::marker::Model;
-use tm_base::{Key, Mem, Message, MessageList, NoMemory, Stamp, Value, Vector, Writer};
+use tm_base::{Key, Mem, Message, MessageList, NoMemory, PairList, Stamp, Value, Vector, Writer};
 
 /// One of the replicas. Contracts see its state in `replica_model`, while it runs: it does until a step wants memory, for
 /// that step may have taken a part of what came alone. Then its life is over, its memory is given back, and no point of this
@@ -124,5 +124,24 @@ impl Replica {
         };
         let value = state.get(point, table, key)?;
         Ok(value)
+    }
+
+    /// The first so many keys of a table with values at a point, from one on or all, ascending. Refuses `NoPoint`, `NoTable`
+    /// and `Unfit`, each exactly where it holds and none of those before it does. It looks at the pages alone that the walk
+    /// needs: none before the child to which the first key leads, and none after the last pair.
+    pub fn scan(
+        &self,
+        point: u32,
+        table: u16,
+        from: Option<&Key>,
+        count: usize,
+    ) -> Result<PairList, ViewError>
+        ensures { Reads (listed result) self.now (λ s. scan s point table (option_copied from.entry) count) }
+    {
+        let Some(state) = &self.state else {
+            return Err(ViewError::NoPoint);
+        };
+        let pairs = state.scan(point, table, from, count)?;
+        Ok(pairs)
     }
 }

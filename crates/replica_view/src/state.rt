@@ -179,6 +179,11 @@ impl State {
         Ok(outputs)
     }
 
+    /// The allocator that the state was made with.
+    pub(crate) fn allocator(&self) -> Global {
+        self.alloc
+    }
+
     /// The records of the pages.
     pub(crate) fn pages(&self) -> &Chains
         ensures { result.now ≡ self.now.pages }

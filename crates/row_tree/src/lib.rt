@@ -22,5 +22,5 @@ mod tests;
 pub use fence::level_of;
 pub use pages::Pages;
 pub use path::{FindError, Path, find};
-pub use place::{Place, child_for, is_at};
+pub use place::{Place, child_at, child_for, entries_up_to, is_at};
 pub use plan::{Plan, PlanError, plan_put};

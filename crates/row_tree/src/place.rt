@@ -1,7 +1,7 @@
 //! Where a key leads from an inner page.
-ghost use Rattle.std.specs.Prelude.{◌≡◌, ◌≤◌, length, drop};
+ghost use Rattle.std.specs.Prelude.{◌≡◌, ◌≤◌, ◌∷◌, Some, length, drop, slice_get};
 ghost use Rattle.std.specs.Option.{option_copied};
-ghost use Rattle.page_model.specs.Tree.{child_for, is_at, is_of, next_fence};
+ghost use Rattle.page_model.specs.Tree.{child_for, entry_places, first_place, is_at, is_of, next_fence};
 ghost use Rattle.row_tree.specs.Inside.{place_of, ArePartedAt};
 
 use crate::fence::{high_of, low_of};
@@ -17,7 +17,7 @@ pub struct Place<'a> {
 }
 
 /// How many entries from the first on have keys that are at most this one. It looks at a few by halving.
-fn entries_up_to(entries: &ChildList, key: &[u8]) -> usize
+pub fn entries_up_to(entries: &ChildList, key: &[u8]) -> usize
     ensures bound { result ≤ length entries.now }
     ensures parted { ArePartedAt key.now entries.now result }
 {
@@ -37,6 +37,34 @@ fn next_fence<'a>(entries: &'a [Child], at: usize, high: &'a Option<Key>) -> Opt
     Some(entries[at].key.as_slice())
 }
 
+/// The child of that number: the first child is number 0, and the child of the entry number `at`, from 0, is number `at + 1`.
+pub fn child_at<'a>(
+    low: &'a Option<Key>,
+    high: &'a Option<Key>,
+    first: Page,
+    entries: &'a ChildList,
+    number: usize,
+) -> Place<'a>
+    requires { number ≤ length entries.now }
+    ensures { slice_get (first_place low.now high.now first entries.now ∷ entry_places high.now entries.now) number ≡ Some (place_of result) }
+{
+    let entries = entries.as_slice();
+    let high = next_fence(entries, number, high);
+    if number == 0 {
+        return Place {
+            page: first,
+            low: fence_bytes(low),
+            high,
+        };
+    }
+    let entry = &entries[number - 1];
+    Place {
+        page: entry.page,
+        low: Some(entry.key.as_slice()),
+        high,
+    }
+}
+
 /// The child to which a key leads. It looks at a few entries by halving.
 pub fn child_for<'a>(
     key: &[u8],
@@ -47,22 +75,7 @@ pub fn child_for<'a>(
 ) -> Place<'a>
     ensures { place_of result ≡ child_for key.now low.now high.now first entries.now }
 {
-    let count = entries_up_to(entries, key);
-    let entries = entries.as_slice();
-    let high = next_fence(entries, count, high);
-    if count == 0 {
-        return Place {
-            page: first,
-            low: fence_bytes(low),
-            high,
-        };
-    }
-    let entry = &entries[count - 1];
-    Place {
-        page: entry.page,
-        low: Some(entry.key.as_slice()),
-        high,
-    }
+    child_at(low, high, first, entries, entries_up_to(entries, key))
 }
 
 fn is_of(table: u16, body: &Body) -> bool
