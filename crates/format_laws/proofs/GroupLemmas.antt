@@ -14,10 +14,10 @@ use Rattle.tm_data.specs.declared.log.Group.{Group}
 use Rattle.tm_data.specs.declared.log.Record.{Record}
 use Rattle.tm_base.specs.declared.message.PageStamp.{PageStamp}
 use Rattle.page_model.specs.Effects.{page_of}
-use Rattle.log_writer.specs.declared.logged.Logged.{Logged}
-use Rattle.log_writer.specs.Log.{durable_seq, durable_stamp, stamp_of as stamp_of_logged}
+use Rattle.log_writer.specs.Log.{Log, durable_count, durable_seq, durable_stamp}
 use Rattle.master_model.specs.Recovery.{page_stamp, pages_of, part_of, part_size, with_groups, with_records, with_stamp}
-use Rattle.master_model.specs.Facts.{AreGroups, GroupBrought, groups_in}
+use Rattle.master_model.specs.Facts.{AreGroups, GroupBrought, IsRestOf, stamp_in}
+use Rattle.master_model.proofs.WholeLemmas.{stamp_there}
 use Rattle.format_laws.specs.Spelled.{AreStamps, IsStamp}
 
 -- ---- the groups of a log
@@ -40,15 +40,16 @@ all_below : (writer seq after last : ℕ) (gs : List Group) → AreGroups writer
 all_below writer seq after last [] h = tt
 all_below writer seq after last (g ∷ gs) h = (rises_to writer (seq + 1) g.stamp.0 last gs h.6, all_below writer (seq + 1) g.stamp.0 last gs h.6)
 
-logged_below : (last : ℕ) (ls : List Logged) (i : ℕ) → Below last (groups_in ls) → stamp_of_logged (slice_get ls i) ≤ last
-logged_below last [] i h = omega arith
-logged_below last (l ∷ ls) zero h = h.0
-logged_below last (l ∷ ls) (suc i) h = logged_below last ls i h.1
+group_below : (last : ℕ) (gs : List Group) (i : ℕ) → Below last gs → stamp_in (slice_get gs i) ≤ last
+group_below last [] i h = omega arith
+group_below last (g ∷ gs) zero h = h.0
+group_below last (g ∷ gs) (suc i) h = group_below last gs i h.1
 
-pub durable_below : (writer seq after last : ℕ) (ls : List Logged) → AreGroups writer seq after last (groups_in ls) → durable_stamp ls ≤ last
-durable_below writer seq after last ls h = by (nat_eq (durable_seq ls) 0) (logged_below last ls (durable_seq ls - 1) (all_below writer seq after last (groups_in ls) h))
+pub durable_below : (writer after last : ℕ) (gs : List Group) (log : Log) → IsRestOf gs log → AreGroups writer 1 after last gs → durable_stamp log ≤ last
+durable_below writer after last gs log r h =
+    subst (λ (k : ℕ). k ≤ last) (sym (stamp_there gs log (durable_count log.groups) r)) (by (nat_eq (durable_seq log) 0) (group_below last gs (durable_seq log - 1) (all_below writer 1 after last gs h)))
   where
-    by : (b : Bool) → stamp_of_logged (slice_get ls (durable_seq ls - 1)) ≤ last → stamp_of_logged (cond b None (slice_get ls (durable_seq ls - 1))) ≤ last
+    by : (b : Bool) → stamp_in (slice_get gs (durable_seq log - 1)) ≤ last → cond b 0 (stamp_in (slice_get gs (durable_seq log - 1))) ≤ last
     by true k = omega arith
     by false k = k
 

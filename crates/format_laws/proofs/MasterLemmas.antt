@@ -22,10 +22,12 @@ use Rattle.master_model.specs.State.{Work, Life, State, Recovery, vector_of}
 use Rattle.master_model.specs.Recovery.{in_turn}
 use Rattle.master_model.specs.Step as does
 use Rattle.master_model.specs.Step.{on_command, step}
-use Rattle.master_model.specs.Facts.{Brings, BringsNote, Brought, Facts, GroupBrought, LifeFacts, WorkFacts, groups_of}
+use Rattle.master_model.specs.Facts.{Brings, BringsNote, Brought, Facts, GroupBrought, LifeFacts, WorkFacts}
 use Rattle.master_model.specs.Stages.{RecoveryAsked, RecoveryBy, RecoveryGoes, RecoveryIsAsked, StageBy, StageSaid, StagesAreSaid, StagesSaid, TakesOver}
 use Rattle.master_model.specs.Told.{MessagesAre, NoteIs, Registers, Sent, SentBy, StampIs}
 use Rattle.master_model.proofs.CauseLemmas.{joins_or_not}
+use Rattle.master_model.proofs.FactLemmas.{Front}
+use Rattle.master_model.proofs.GrowMoves.{grown_moves}
 use Rattle.master_model.proofs.StepMoves.{command_moves, note_moves, turn_brought}
 use Rattle.format_laws.specs.Kept.{LeftIsSpelled, LifeIsSpelled, ScannedAreSpelled, WorkIsSpelled}
 use Rattle.format_laws.specs.Spelled.{AllSpelled, AreStamps, IsStamp, NoteIsSpelled}
@@ -34,14 +36,17 @@ use Rattle.format_laws.proofs.WorkLemmas.{spelled_moves, vector_brought, vector_
 
 -- ---- the log
 
-pub log_brought : (begun : ℕ) (w : Work) → WorkFacts begun w → AllByRecursion GroupBrought (groups_of w.log)
-log_brought begun w f =
+pub log_brought : (begun : ℕ) (gs : List Group) (w : Work) → WorkFacts begun gs w → AllByRecursion GroupBrought gs
+log_brought begun gs w f =
     let s = f.of_clock.sound in
     let one : 1 ≤ w.log.writer.0 = omega (arith, s.from_one, f.of_clock.writer) in
-    groups_brought w.log.writer.0 1 begun w.clock.scalar (groups_of w.log) one s.scalar_fits f.of_log.groups
+    groups_brought w.log.writer.0 1 begun w.clock.scalar gs one s.scalar_fits f.of_log.groups
 
-pub told_within : (begun : ℕ) (w : Work) → WorkFacts begun w → IsVector (vector_of w) × (greatest (vector_of w) ≤ w.clock.scalar)
-told_within begun w f = vector_within begun w (f.of_log, f.of_clock)
+front_of : (begun : ℕ) (gs : List Group) (w : Work) → WorkFacts begun gs w → Front begun gs w.log w.clock
+front_of begun gs w f = record { of_rest = f.of_rest; of_log = f.of_log; of_clock = f.of_clock }
+
+pub told_within : (begun : ℕ) (gs : List Group) (w : Work) → WorkFacts begun gs w → IsVector (vector_of w) × (greatest (vector_of w) ≤ w.clock.scalar)
+told_within begun gs w f = vector_within begun gs w (front_of begun gs w f)
 
 -- ---- what a recovery has read
 
@@ -134,38 +139,38 @@ StagesMove = (s : State) (m : Message) → RecoveryGoes m s.life (step s m).0.li
 abbrev pub StagesAsked : Type 0
 StagesAsked = (s : State) (session : ℕ) (asked : Command) → RecoveryIsAsked asked s.life (on_command s session asked).0.life
 
-message_work : (begun : ℕ) (s : State) (m : Message) → Facts begun s → Brings m → LifeIsSpelled s.life → WorkIn (step s m).0.life
-message_work begun s m facts brings f = by s.life refl facts f
+message_work : (begun : ℕ) (gs : List Group) (s : State) (m : Message) → Facts begun gs s → Brings m → LifeIsSpelled s.life → WorkIn (step s m).0.life
+message_work begun gs s m facts brings f = by s.life refl facts f
   where
-    in_life : (l : Life) (b : Bool) → s.life ≡ Some l → WorkFacts begun l.work → WorkIsSpelled l.work → WorkIn (does.step_in s l m b).0.life
+    in_life : (l : Life) (b : Bool) → s.life ≡ Some l → WorkFacts begun gs l.work → WorkIsSpelled l.work → WorkIn (does.step_in s l m b).0.life
     in_life l true is facts h = subst WorkIn (sym is) h
     in_life l false is facts h =
-        (note_moves (spelled_moves begun) (does.heard l m.stamp.0) m.from m.stamp.0 m.note brings.0
-        ((spelled_moves begun).hears_stamp l.work m.stamp.0 brings.1 ((facts.of_log, facts.of_clock), h))).1
+        (note_moves (grown_moves (spelled_moves begun)) (does.heard l m.stamp.0) m.from m.stamp.0 m.note brings.0 gs
+        ((spelled_moves begun).hears_stamp l.work m.stamp.0 brings.1 gs (front_of begun gs l.work facts, h))).1.1
 
-    by : (o : Option Life) → s.life ≡ o → LifeFacts begun o → LifeIsSpelled o → WorkIn (does.step_by s m o).0.life
+    by : (o : Option Life) → s.life ≡ o → LifeFacts begun gs o → LifeIsSpelled o → WorkIn (does.step_by s m o).0.life
     by None is facts h = subst (λ (o : Option Life). WorkIn (does.step_by s m o).0.life) is
         (joins_or_not WorkIn s m is tt (λ l joins. subst (λ (x : Life). WorkIsSpelled x.work) (sym joins.life) (joined_spelled _ refl refl)))
     by (Some l) is facts h = in_life l l.fenced is facts h.0
 
-pub message_spelled : StagesMove → (begun : ℕ) (s : State) (m : Message) → Facts begun s → Brings m → LifeIsSpelled s.life → LifeIsSpelled (step s m).0.life
-message_spelled law begun s m facts brings f =
-    together (step s m).0.life (message_work begun s m facts brings f) (goes_read m s.life (step s m).0.life brings.0 (law s m) (read_of s.life f))
+pub message_spelled : StagesMove → (begun : ℕ) (gs : List Group) (s : State) (m : Message) → Facts begun gs s → Brings m → LifeIsSpelled s.life → LifeIsSpelled (step s m).0.life
+message_spelled law begun gs s m facts brings f =
+    together (step s m).0.life (message_work begun gs s m facts brings f) (goes_read m s.life (step s m).0.life brings.0 (law s m) (read_of s.life f))
 
-command_work : (begun : ℕ) (s : State) (session : ℕ) (asked : Command) → Facts begun s → LifeIsSpelled s.life → WorkIn (on_command s session asked).0.life
-command_work begun s session asked facts f = by s.life refl facts f
+command_work : (begun : ℕ) (gs : List Group) (s : State) (session : ℕ) (asked : Command) → Facts begun gs s → LifeIsSpelled s.life → WorkIn (on_command s session asked).0.life
+command_work begun gs s session asked facts f = by s.life refl facts f
   where
-    in_life : (l : Life) (b : Bool) → s.life ≡ Some l → WorkFacts begun l.work → WorkIsSpelled l.work → WorkIn (does.command_in s l session asked b).0.life
+    in_life : (l : Life) (b : Bool) → s.life ≡ Some l → WorkFacts begun gs l.work → WorkIsSpelled l.work → WorkIn (does.command_in s l session asked b).0.life
     in_life l true is facts h = subst WorkIn (sym is) h
-    in_life l false is facts h = (command_moves (spelled_moves begun) l session asked ((facts.of_log, facts.of_clock), h)).1
+    in_life l false is facts h = (command_moves (grown_moves (spelled_moves begun)) l session asked gs (front_of begun gs l.work facts, h)).1.1
 
-    by : (o : Option Life) → s.life ≡ o → LifeFacts begun o → LifeIsSpelled o → WorkIn (does.command_by s session asked o).0.life
+    by : (o : Option Life) → s.life ≡ o → LifeFacts begun gs o → LifeIsSpelled o → WorkIn (does.command_by s session asked o).0.life
     by None is facts h = subst WorkIn (sym is) tt
     by (Some l) is facts h = in_life l l.fenced is facts h.0
 
-pub command_spelled : StagesAsked → (begun : ℕ) (s : State) (session : ℕ) (asked : Command) → Facts begun s → LifeIsSpelled s.life → LifeIsSpelled (on_command s session asked).0.life
-command_spelled law begun s session asked facts f =
-    together (on_command s session asked).0.life (command_work begun s session asked facts f) (commanded_read asked s.life (on_command s session asked).0.life (law s session asked) (read_of s.life f))
+pub command_spelled : StagesAsked → (begun : ℕ) (gs : List Group) (s : State) (session : ℕ) (asked : Command) → Facts begun gs s → LifeIsSpelled s.life → LifeIsSpelled (on_command s session asked).0.life
+command_spelled law begun gs s session asked facts f =
+    together (on_command s session asked).0.life (command_work begun gs s session asked facts f) (commanded_read asked s.life (on_command s session asked).0.life (law s session asked) (read_of s.life f))
 
 -- ---- what is sent
 
@@ -178,32 +183,32 @@ listed_spelled l writer part rest listed h t =
     let read : Read t.recovery.scanned = subst ScannedAreSpelled t.under_way h in
     subst AreStamps (sym t.listed_is) (part_fits t.recovery.scanned part read)
 
-told_spelled : (begun : ℕ) (l : Life) (to : Node) (n : Note) → WorkFacts begun l.work → WorkIsSpelled l.work → ScannedAreSpelled l.recovery → NoteIs l.work to n → StageSaid l to n → NoteIsSpelled n
-told_spelled begun l to (note.Release writer page epoch stamp tags vector) f h k says staged =
+told_spelled : (begun : ℕ) (gs : List Group) (l : Life) (to : Node) (n : Note) → WorkFacts begun gs l.work → WorkIsSpelled l.work → ScannedAreSpelled l.recovery → NoteIs l.work to n → StageSaid l to n → NoteIsSpelled n
+told_spelled begun gs l to (note.Release writer page epoch stamp tags vector) f h k says staged =
     let one : LeftIsSpelled (record { epoch = epoch; stamp = stamp; tags = tags; vector = vector }) = h.left page.0 _ says.2 in (one.vector, one.stamp)
-told_spelled begun l to (note.Fate txn ended vector) f h k says staged = subst Brought (sym says.4) (vector_brought begun l.work (f.of_log, f.of_clock))
-told_spelled begun l to (note.Takeover writer part rest listed vector) f h k says staged =
-    (subst Brought (sym says.1) (vector_brought begun l.work (f.of_log, f.of_clock)), listed_spelled l writer.0 part rest listed k staged)
-told_spelled begun l to (note.Undone writer recoverer vector) f h k says staged = subst Brought (sym says.2) (vector_brought begun l.work (f.of_log, f.of_clock))
-told_spelled begun l to (note.Registered boot writer) f h k says staged = absurd says
-told_spelled begun l to (note.Grant writer page epoch stamp tags vector) f h k says staged = absurd says
-told_spelled begun l to (note.Recovered writer vector) f h k says staged = absurd says
-told_spelled begun l to n f h k says staged = tt
+told_spelled begun gs l to (note.Fate txn ended vector) f h k says staged = subst Brought (sym says.4) (vector_brought begun gs l.work (front_of begun gs l.work f))
+told_spelled begun gs l to (note.Takeover writer part rest listed vector) f h k says staged =
+    (subst Brought (sym says.1) (vector_brought begun gs l.work (front_of begun gs l.work f)), listed_spelled l writer.0 part rest listed k staged)
+told_spelled begun gs l to (note.Undone writer recoverer vector) f h k says staged = subst Brought (sym says.2) (vector_brought begun gs l.work (front_of begun gs l.work f))
+told_spelled begun gs l to (note.Registered boot writer) f h k says staged = absurd says
+told_spelled begun gs l to (note.Grant writer page epoch stamp tags vector) f h k says staged = absurd says
+told_spelled begun gs l to (note.Recovered writer vector) f h k says staged = absurd says
+told_spelled begun gs l to n f h k says staged = tt
 
-all_spelled : (begun : ℕ) (l : Life) (ms : List Message) → WorkFacts begun l.work → WorkIsSpelled l.work → ScannedAreSpelled l.recovery → MessagesAre l.work ms → StagesSaid l ms → AllSpelled ms
-all_spelled begun l [] f h k sent staged = tt
-all_spelled begun l (m ∷ ms) f h k sent staged = (
-  record { stamp = stamp_spelled l.work m.stamp.0 m.note f.of_clock.sound.scalar_fits h sent.0.stamp; note = told_spelled begun l m.to m.note f h k sent.0.says staged.0 },
-  all_spelled begun l ms f h k sent.1 staged.1,
+all_spelled : (begun : ℕ) (gs : List Group) (l : Life) (ms : List Message) → WorkFacts begun gs l.work → WorkIsSpelled l.work → ScannedAreSpelled l.recovery → MessagesAre l.work ms → StagesSaid l ms → AllSpelled ms
+all_spelled begun gs l [] f h k sent staged = tt
+all_spelled begun gs l (m ∷ ms) f h k sent staged = (
+  record { stamp = stamp_spelled l.work m.stamp.0 m.note f.of_clock.sound.scalar_fits h sent.0.stamp; note = told_spelled begun gs l m.to m.note f h k sent.0.says staged.0 },
+  all_spelled begun gs l ms f h k sent.1 staged.1,
 )
 
 registers_spelled : (s : State) (ms : List Message) → AllByRecursion (Registers s) ms → AllSpelled ms
 registers_spelled s [] sent = tt
 registers_spelled s (m ∷ ms) sent = (record { stamp = omega (arith, sent.0.stamp); note = subst NoteIsSpelled (sym sent.0.says) tt }, registers_spelled s ms sent.1)
 
-pub sent_spelled : (begun : ℕ) (s : State) (ms : List Message) → Facts begun s → LifeIsSpelled s.life → Sent s ms → StagesAreSaid s.life ms → AllSpelled ms
-sent_spelled begun s ms facts f sent staged = by s.life facts f sent staged
+pub sent_spelled : (begun : ℕ) (gs : List Group) (s : State) (ms : List Message) → Facts begun gs s → LifeIsSpelled s.life → Sent s ms → StagesAreSaid s.life ms → AllSpelled ms
+sent_spelled begun gs s ms facts f sent staged = by s.life facts f sent staged
   where
-    by : (o : Option Life) → LifeFacts begun o → LifeIsSpelled o → SentBy s o ms → StagesAreSaid o ms → AllSpelled ms
+    by : (o : Option Life) → LifeFacts begun gs o → LifeIsSpelled o → SentBy s o ms → StagesAreSaid o ms → AllSpelled ms
     by None facts f sent staged = registers_spelled s ms sent
-    by (Some l) facts f sent staged = all_spelled begun l ms facts f.0 f.1 sent staged
+    by (Some l) facts f sent staged = all_spelled begun gs l ms facts f.0 f.1 sent staged

@@ -6,6 +6,7 @@ use Rattle.std.specs.FinMap.{FinMap}
 use Rattle.std.specs.FinMap as fin
 use Rattle.std.proofs.lemmas.Bool.Decides.{nat_tests}
 use Rattle.tm_data.specs.declared.image.Image.{Image}
+use Rattle.tm_data.specs.declared.log.Group.{Group}
 use Rattle.tm_data.specs.declared.transaction.Stamp.{Stamp}
 use Rattle.tm_data.specs.declared.vector.VectorEntry.{VectorEntry}
 use Rattle.tm_data.specs.Vectors.{IsVector, greatest, single}
@@ -21,7 +22,8 @@ use Rattle.master_model.specs.Leases.{gives_back, left_of, with_images}
 use Rattle.master_model.specs.Facts.{Brought}
 use Rattle.master_model.proofs.FactLemmas.{Front, front_moves}
 use Rattle.master_model.proofs.LeaseLemmas.{kept_here, kept_other, lease_here, lease_other, removed_here, removed_other}
-use Rattle.master_model.proofs.Moves.{Closed}
+use Rattle.master_model.proofs.GrowMoves.{GrowsFor}
+use Rattle.master_model.proofs.Moves.{AnyCause}
 use Rattle.format_laws.specs.Kept.{LeftIsSpelled, WorkIsSpelled}
 use Rattle.format_laws.specs.Spelled.{IsStamp}
 use Rattle.format_laws.proofs.GroupLemmas.{durable_below}
@@ -36,18 +38,18 @@ single_within writer stamp = by (nat_eq stamp 0)
     by true = omega arith
     by false = omega arith
 
-pub vector_within : (start : ℕ) (w : Work) → Front start w.log w.clock → IsVector (vector_of w) × (greatest (vector_of w) ≤ w.clock.scalar)
-vector_within start w h =
-    let s = h.1.sound in
-    let own : List VectorEntry = single w.clock.writer (durable_stamp w.log.groups) in
-    let one : IsVector own = single_is_vector w.clock.writer (durable_stamp w.log.groups) s.from_one in
-    let below : durable_stamp w.log.groups ≤ w.clock.scalar = durable_below w.log.writer.0 1 start w.clock.scalar w.log.groups h.0.groups in (
+pub vector_within : (start : ℕ) (gs : List Group) (w : Work) → Front start gs w.log w.clock → IsVector (vector_of w) × (greatest (vector_of w) ≤ w.clock.scalar)
+vector_within start gs w h =
+    let s = h.of_clock.sound in
+    let own : List VectorEntry = single w.clock.writer (durable_stamp w.log) in
+    let one : IsVector own = single_is_vector w.clock.writer (durable_stamp w.log) s.from_one in
+    let below : durable_stamp w.log ≤ w.clock.scalar = durable_below w.log.writer.0 start w.clock.scalar gs w.log h.of_rest h.of_log.groups in (
       joined_ascends 0 w.clock.heard own s.heard_ascends one,
-      omega (arith, joined_greatest w.clock.heard own s.heard_ascends one, s.heard_below, single_within w.clock.writer (durable_stamp w.log.groups), below),
+      omega (arith, joined_greatest w.clock.heard own s.heard_ascends one, s.heard_below, single_within w.clock.writer (durable_stamp w.log), below),
     )
 
-pub vector_brought : (start : ℕ) (w : Work) → Front start w.log w.clock → Brought (vector_of w)
-vector_brought start w h = let v = vector_within start w h in (v.0, omega (arith, v.1, h.1.sound.scalar_fits))
+pub vector_brought : (start : ℕ) (gs : List Group) (w : Work) → Front start gs w.log w.clock → Brought (vector_of w)
+vector_brought start gs w h = let v = vector_within start gs w h in (v.0, omega (arith, v.1, h.of_clock.sound.scalar_fits))
 
 -- ---- leases
 
@@ -128,65 +130,61 @@ told_more left page new h k q l is = by (nat_eq q page) refl
 
 -- ---- the moves
 
-abbrev pub Spelled : ℕ → Work → Type 0
-Spelled start w = Front start w.log w.clock × WorkIsSpelled w
-
-abbrev SpelledMoves : ℕ → Work → Work → Type 0
-SpelledMoves start a b = Spelled start a → Spelled start b
+abbrev pub Spelled : ℕ → List Group → Work → Type 0
+Spelled start gs w = Front start gs w.log w.clock × WorkIsSpelled w
 
 image_spelled : (w : Work) (o : Option (List Image)) → WorkIsSpelled w → WorkIsSpelled (with_images w o)
 image_spelled w None h = h
 image_spelled w (Some images) h = record { leases = h.leases; left = h.left }
 
-given_back : (start : ℕ) (w : Work) (page : ℕ) → Spelled start w → WorkIsSpelled (gives_back w page)
-given_back start w page h = record {
+given_back : (start : ℕ) (gs : List Group) (w : Work) (page : ℕ) → Spelled start gs w → WorkIsSpelled (gives_back w page)
+given_back start gs w page h = record {
   leases = releasing_fits w.leases page h.1.leases;
-  left = told_more w.left page (left_of w page) h.1.left (record { vector = vector_brought start w h.0; stamp = h.1.leases page });
+  left = told_more w.left page (left_of w page) h.1.left (record { vector = vector_brought start gs w h.0; stamp = h.1.leases page });
 }
 
 same_spelled : (w v : Work) → v.leases ≡ w.leases → v.left ≡ w.left → WorkIsSpelled w → WorkIsSpelled v
 same_spelled w v a b h = record { leases = subst Fit (sym a) h.leases; left = subst Told (sym b) h.left }
 
-pub spelled_moves : (start : ℕ) → Closed (SpelledMoves start)
+pub spelled_moves : (start : ℕ) → GrowsFor AnyCause (Spelled start)
 spelled_moves start = record {
-  none = λ w h. h;
-  both = λ a b c h k x. k (h x);
-  hears_stamp = λ w stamp fits h. (front.hears_stamp w stamp fits h.0, same_spelled w _ refl refl h.1);
-  hears_vector = λ w vector brought h. (front.hears_vector w vector brought h.0, same_spelled w _ refl refl h.1);
-  acks = λ w store seq is came h. (front.acks w store seq is came h.0, same_spelled w _ refl refl h.1);
-  acks_more = λ w store seq is came h. (front.acks_more w store seq is came h.0, same_spelled w _ refl refl h.1);
-  group = λ w records none room h. (front.group w records none room h.0, same_spelled w _ refl refl h.1);
-  change = λ w r stamp page is h. (
-    front.change w r stamp page is h.0,
-    record { leases = changed_fits w.leases page (record { 0 = stamp }) h.1.leases (omega (arith, is, h.0.1.sound.scalar_fits)); left = h.1.left },
+  hears_stamp = λ w stamp fits gs h. (front.hears_stamp w stamp fits gs h.0, same_spelled w _ refl refl h.1);
+  hears_vector = λ w vector brought gs h. (front.hears_vector w vector brought gs h.0, same_spelled w _ refl refl h.1);
+  acks = λ w store seq is came gs h. (front.acks w store seq is came gs h.0, same_spelled w _ refl refl h.1);
+  acks_more = λ w store seq is came gs h. (front.acks_more w store seq is came gs h.0, same_spelled w _ refl refl h.1);
+  let_go = λ w may gs h. (front.let_go w may gs h.0, same_spelled w _ refl refl h.1);
+  group = λ w records none room gs h. (front.group w records none room gs h.0, same_spelled w _ refl refl h.1);
+  change = λ w r stamp page is gs h. (
+    front.change w r stamp page is gs h.0,
+    record { leases = changed_fits w.leases page (record { 0 = stamp }) h.1.leases (omega (arith, is, h.0.of_clock.sound.scalar_fits)); left = h.1.left },
   );
-  grant = λ w page epoch stamp tags vector new brought fits granted h. (
-    front.grant w page epoch stamp tags vector new brought fits granted h.0,
+  grant = λ w page epoch stamp tags vector new brought fits granted gs h. (
+    front.grant w page epoch stamp tags vector new brought fits granted gs h.0,
     record {
       leases = set_fits w.leases page.0 (record { epoch = epoch; state = lease.Held; stamp = stamp }) (nat_lt (lease_of w.leases page.0).epoch epoch) h.1.leases fits;
       left = told_less w.left page.0 h.1.left;
     },
   );
-  image = λ w image held same h. (front.image w image held same h.0, image_spelled w _ h.1);
-  fresh_page = λ w page is came h. (
-    front.fresh_page w page is came h.0,
+  image = λ w image held same gs h. (front.image w image held same gs h.0, image_spelled w _ h.1);
+  fresh_page = λ w page is came gs h. (
+    front.fresh_page w page is came gs h.0,
     record { leases = set_fits w.leases page.0 (record { epoch = 1; state = lease.Held; stamp = record { 0 = 0 } }) (nat_lt (lease_of w.leases page.0).epoch 1) h.1.leases (omega arith); left = h.1.left },
   );
-  fresh_none = λ w h. (front.fresh_none w h.0, same_spelled w _ refl refl h.1);
-  recall = λ w page epoch came h. (front.recall w page epoch came h.0, record { leases = recalled_fits w.leases page epoch h.1.leases; left = h.1.left });
-  give_back = λ w page is came h. (front.give_back w page is came h.0, given_back start w page h);
-  release = λ w page epoch is h. (front.release w page epoch is h.0, record { leases = released_fits w.leases page epoch h.1.leases; left = told_less w.left page h.1.left });
-  path = λ w path h. (front.path w path h.0, same_spelled w _ refl refl h.1);
-  end = λ w t is h. (front.end w t is h.0, same_spelled w _ refl refl h.1);
-  mark = λ w t is known h. (front.mark w t is known h.0, same_spelled w _ refl refl h.1);
-  name = λ w t h. (front.name w t h.0, same_spelled w _ refl refl h.1);
-  begin = λ w session is h. (front.begin w session is h.0, same_spelled w _ refl refl h.1);
-  tag = λ w session page key own is active held h. (front.tag w session page key own is active held h.0, same_spelled w _ refl refl h.1);
-  put = λ w p leaf path fresh count is some h. (front.put w p leaf path fresh count is some h.0, same_spelled w _ refl refl h.1);
-  session = λ w session own left is going h. (front.session w session own left is going h.0, same_spelled w _ refl refl h.1);
-  ends = λ w session own committed is going room h. (front.ends w session own committed is going room h.0, same_spelled w _ refl refl h.1);
-  free = λ w session own committed seq is at durable h. (front.free w session own committed seq is at durable h.0, same_spelled w _ refl refl h.1);
+  fresh_none = λ w gs h. (front.fresh_none w gs h.0, same_spelled w _ refl refl h.1);
+  recall = λ w page epoch came gs h. (front.recall w page epoch came gs h.0, record { leases = recalled_fits w.leases page epoch h.1.leases; left = h.1.left });
+  give_back = λ w page is came gs h. (front.give_back w page is came gs h.0, given_back start gs w page h);
+  release = λ w page epoch is gs h. (front.release w page epoch is gs h.0, record { leases = released_fits w.leases page epoch h.1.leases; left = told_less w.left page h.1.left });
+  path = λ w path gs h. (front.path w path gs h.0, same_spelled w _ refl refl h.1);
+  end = λ w t is gs h. (front.end w t is gs h.0, same_spelled w _ refl refl h.1);
+  mark = λ w t is known gs h. (front.mark w t is known gs h.0, same_spelled w _ refl refl h.1);
+  name = λ w t gs h. (front.name w t gs h.0, same_spelled w _ refl refl h.1);
+  begin = λ w session is gs h. (front.begin w session is gs h.0, same_spelled w _ refl refl h.1);
+  tag = λ w session page key own is active held gs h. (front.tag w session page key own is active held gs h.0, same_spelled w _ refl refl h.1);
+  put = λ w p leaf path fresh count is some gs h. (front.put w p leaf path fresh count is some gs h.0, same_spelled w _ refl refl h.1);
+  session = λ w session own left is going gs h. (front.session w session own left is going gs h.0, same_spelled w _ refl refl h.1);
+  ends = λ w session own committed is going room gs h. (front.ends w session own committed is going room gs h.0, same_spelled w _ refl refl h.1);
+  free = λ w session own committed seq is at durable gs h. (front.free w session own committed seq is at durable gs h.0, same_spelled w _ refl refl h.1);
 }
   where
-    front : Closed (λ (a b : Work). Front start a.log a.clock → Front start b.log b.clock)
+    front : GrowsFor AnyCause (λ (gs : List Group) (w : Work). Front start gs w.log w.clock)
     front = front_moves start

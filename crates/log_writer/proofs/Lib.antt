@@ -1,3 +1,4 @@
 mod PrefixLemmas
 pub mod OrderLemmas
+pub mod LetGoLemmas
 mod ResendLemmas

@@ -5,8 +5,8 @@ use Rattle.std.proofs.lemmas.Bool.Decides.{nat_tests}
 use Rattle.std.proofs.lemmas.List.Sums.{prefix_len-le-length}
 use Rattle.log_writer.specs.declared.acks.Acks.{Acks}
 use Rattle.log_writer.specs.declared.logged.Logged.{Logged}
-use Rattle.log_writer.specs.Acks.{has, with_ack}
-use Rattle.log_writer.specs.Log.{acked_at, acked_there, durable_seq, reached}
+use Rattle.log_writer.specs.Acks.{has, has_all, with_ack}
+use Rattle.log_writer.specs.Log.{acked_at, acked_there, durable_count, reached}
 
 -- A prefix is some first elements of it and what passes behind them.
 pub prefix_split : {X : Type 0} (p : X → Bool) (xs : List X) (n : ℕ) → n ≤ prefix_len p xs → n + prefix_len p (drop n xs) ≡ prefix_len p xs
@@ -30,7 +30,7 @@ least_prefix p q r (x ∷ xs) = by (p x) (q x) (r x) (least_prefix p q r xs)
     by true false d rest = grind arith
     by false c d rest = grind arith
 
-pub least_reached : (groups : List Logged) → min (min (reached groups 1) (reached groups 2)) (reached groups 3) ≡ durable_seq groups
+pub least_reached : (groups : List Logged) → min (min (reached groups 1) (reached groups 2)) (reached groups 3) ≡ durable_count groups
 least_reached groups = least_prefix (λ logged. logged.acks.first) (λ logged. logged.acks.second) (λ logged. logged.acks.third) groups
 
 -- An element that passes wherever the one in its place did leaves the prefix at least as long.
@@ -96,3 +96,17 @@ reached_other (l ∷ ls) store a b c = by (nat_eq store 1) (nat_eq store 2) (nat
 pub prefix_ends : {X : Type 0} (p : X → Bool) (xs : List X) (y : X) → p y ≡ false → prefix_len p (xs ++ y ∷ []) ≡ prefix_len p xs
 prefix_ends p [] y h = ap (λ b. cond b (1 + prefix_len p []) 0) h
 prefix_ends p (x ∷ xs) y h = ap (λ n. cond (p x) (1 + n) 0) (prefix_ends p xs y h)
+
+-- The prefix that all three acknowledged is in that of each store.
+pub durable_within : (groups : List Logged) (n first second third : ℕ) → n ≡ durable_count groups → first ≡ reached groups 1 → second ≡ reached groups 2 → third ≡ reached groups 3 → (n ≤ first) × (n ≤ second) × (n ≤ third)
+durable_within groups n first second third is a b d =
+    let least : min (min (reached groups 1) (reached groups 2)) (reached groups 3) ≡ durable_count groups = least_reached groups in
+    (omega (arith, least, is, a), omega (arith, least, is, b), omega (arith, least, is, d))
+
+-- And it is no longer than the log.
+pub durable_short : (groups : List Logged) (n : ℕ) → n ≡ durable_count groups → n ≤ length groups
+durable_short groups n is = omega (arith, is, prefix_len-le-length (λ l. has_all l.acks) groups)
+
+-- What is left of a prefix behind some of its elements.
+pub prefix_left : (groups : List Logged) (store n from : ℕ) → from ≡ reached groups store → n ≤ from → from - n ≡ reached (drop n groups) store
+prefix_left groups store n from is less = omega (arith, is, less, prefix_split (λ l. has l.acks store) groups n (omega (arith, is, less)))

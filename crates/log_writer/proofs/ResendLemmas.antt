@@ -1,5 +1,5 @@
 -- Facts on the groups that are sent again.
-use Rattle.std.proofs.Common.{◌≡◌, ◌≤◌, ◌+◌, ℕ, Bool, true, false, cond, not, List, [], ◌∷◌, ◌++◌, length, take, drop, map, suc, refl, sym, ap, ◌∙◌, arith, append_assoc}
+use Rattle.std.proofs.Common.{◌≡◌, ◌≤◌, ◌+◌, ℕ, Bool, true, false, cond, not, List, [], ◌∷◌, ◌++◌, length, take, drop, map, suc, zero, refl, sym, ap, ◌∙◌, arith, append_assoc}
 use Rattle.std.specs.List.{filter}
 use Rattle.std.proofs.lemmas.List.{append-nil, take_all, take_at}
 use Rattle.tm_data.specs.declared.log.Group.{Group}
@@ -8,25 +8,23 @@ use Rattle.log_writer.specs.Acks.{has}
 use Rattle.log_writer.specs.Log.{reached, unacked, resent}
 
 -- Of the groups in the acknowledged prefix none is sent again.
-pub unacked_behind : (groups : List Logged) (store : ℕ) → unacked (drop (reached groups store) groups) store ≡ unacked groups store
-unacked_behind [] store = refl
-unacked_behind (l ∷ ls) store = by (has l.acks store) refl (unacked_behind ls store)
+pub unacked_behind : (groups : List Logged) (store from : ℕ) → from ≤ reached groups store → unacked (drop from groups) store ≡ unacked groups store
+unacked_behind groups store zero less = refl
+unacked_behind [] store (suc from) less = refl
+unacked_behind (l ∷ ls) store (suc from) less = by (has l.acks store) refl less (unacked_behind ls store from)
   where
-    by : (b : Bool) → has l.acks store ≡ b → unacked (drop (reached ls store) ls) store ≡ unacked ls store → unacked (drop (cond b (1 + reached ls store) 0) (l ∷ ls)) store ≡ map (λ logged. logged.group) (cond (not b) (l ∷ filter (λ logged. not (has logged.acks store)) ls) (filter (λ logged. not (has logged.acks store)) ls))
-    by true is rest =
-        let e : 1 + reached ls store ≡ suc (reached ls store) = omega arith in
-        ap (λ n. unacked (drop n (l ∷ ls)) store) e ∙ rest
-    by false is rest = ap (λ b. map (λ logged. logged.group) (cond (not b) (l ∷ filter (λ logged. not (has logged.acks store)) ls) (filter (λ logged. not (has logged.acks store)) ls))) is
-
-pub resent_behind : (groups : List Logged) (store : ℕ) → resent (drop (reached groups store) groups) store ≡ resent groups store
-resent_behind groups store = ap (take 16) (unacked_behind groups store)
-
-pub resent_from : (groups slice rest : List Logged) (store from : ℕ) (found : List Group) → found ≡ resent rest store → rest ≡ drop from slice → slice ≡ groups → from ≡ reached groups store → found ≡ resent groups store
-resent_from groups slice rest store from found f r s n = f ∙ (ap (λ l. resent l store) (r ∙ (λ i. drop (n i) (s i))) ∙ resent_behind groups store)
+    by : (b : Bool) → has l.acks store ≡ b → suc from ≤ cond b (1 + reached ls store) 0 → (from ≤ reached ls store → unacked (drop from ls) store ≡ unacked ls store)
+        → unacked (drop from ls) store ≡ map (λ logged. logged.group) (cond (not (has l.acks store)) (l ∷ filter (λ logged. not (has logged.acks store)) ls) (filter (λ logged. not (has logged.acks store)) ls))
+    by true is less rest =
+        rest (omega (arith, less)) ∙ ap (λ b. map (λ logged. logged.group) (cond (not b) (l ∷ filter (λ logged. not (has logged.acks store)) ls) (filter (λ logged. not (has logged.acks store)) ls))) (sym is)
+    by false is less rest = absurd (omega (arith, less))
 
 -- What was found so far, before what is to come, gives what is sent.
 abbrev pub Found : List Group → List Logged → List Logged → ℕ → Type 0
 Found found rest groups store = take 16 (found ++ unacked rest store) ≡ resent groups store
+
+pub found_none : (groups : List Logged) (store from : ℕ) → from ≤ reached groups store → Found [] (drop from groups) groups store
+found_none groups store from less = ap (take 16) (unacked_behind groups store from less)
 
 pub found_all : (found : List Group) (groups rest : List Logged) (store : ℕ) → length found ≤ 16 → rest ≡ [] → Found found rest groups store → found ≡ resent groups store
 found_all found groups rest store short none h =

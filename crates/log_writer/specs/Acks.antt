@@ -5,6 +5,9 @@ use Rattle.log_writer.specs.declared.acks.Acks.{Acks}
 abbrev pub no_acks : Acks
 no_acks = record { first = false; second = false; third = false }
 
+abbrev pub all_acks : Acks
+all_acks = record { first = true; second = true; third = true }
+
 -- Whether a store is among them.
 abbrev pub has : Acks → ℕ → Bool
 has acks store = cond (nat_eq store 1) acks.first (cond (nat_eq store 2) acks.second (cond (nat_eq store 3) acks.third false))

@@ -4,24 +4,43 @@
 //! facts.
 ghost use Rattle.std.specs.Prelude.{◌≡◌, ◌≤◌, ◌⊎◌, ℕ, Some, true};
 ghost use Rattle.tm_data.specs.declared.log.Group.{Group};
+ghost use Rattle.log_writer.specs.Acks.{all_acks, has};
 ghost use Rattle.log_writer.specs.declared.logged.Logged.{Logged};
-ghost use Rattle.log_writer.specs.Log.{acked, appended, durable_seq, is_marked, IsLog, Log, numbered, settled};
+ghost use Rattle.log_writer.specs.Log.{acked, appended, durable_seq, durable_stamp, is_marked, IsLog, lacking, last_seq, last_stamp, let_go, Log, numbered, resent, settled};
 
 /// The number of the last durable group never falls. Refused is an acknowledgement that takes another back.
 pub fn durable_never_falls()
-    ensures acked { (log : Log) (store seq : ℕ) → durable_seq log.groups ≤ durable_seq (acked log store seq).groups }
-    ensures appended { (log : Log) (group : Group) → durable_seq (appended log group).groups ≡ durable_seq log.groups }
+    ensures acked { (log : Log) (store seq : ℕ) → durable_seq log ≤ durable_seq (acked log store seq) }
+    ensures appended { (log : Log) (group : Group) → durable_seq (appended log group) ≡ durable_seq log }
 {}
 
 /// A mark came from an acknowledgement: an acknowledgement marks its own group for its own store and none
 /// other, and a group that is logged has no mark. Refused is a group that is logged as acknowledged.
 pub fn marks_come_from_acknowledgements()
-    ensures acked { (log : Log) (store seq n s : ℕ) → is_marked (acked log store seq).groups n s ≡ true → (is_marked log.groups n s ≡ true) ⊎ ((n ≡ seq) × (s ≡ store)) }
-    ensures appended { (log : Log) (group : Group) (n s : ℕ) → is_marked (appended log group).groups n s ≡ is_marked log.groups n s }
+    ensures acked { (log : Log) (store seq n s : ℕ) → is_marked (acked log store seq) n s ≡ true → (is_marked log n s ≡ true) ⊎ ((n ≡ seq) × (s ≡ store)) }
+    ensures appended { (log : Log) (group : Group) (n s : ℕ) → is_marked (appended log group) n s ≡ is_marked log n s }
 {}
 
 /// A group whose stamp is settled is durable. Refused is the stamp of the first group that isn't durable
 /// itself.
 pub fn what_is_settled_is_durable()
-    ensures { (log : Log) (scalar seq : ℕ) (l : Logged) → IsLog log → numbered log.groups seq ≡ Some l → l.group.stamp.0 ≤ settled log.groups scalar → seq ≤ durable_seq log.groups }
+    ensures { (log : Log) (scalar seq : ℕ) (l : Logged) → IsLog log → numbered log seq ≡ Some l → l.group.stamp.0 ≤ settled log scalar → seq ≤ durable_seq log }
+{}
+
+/// When the durable groups are let go, none of them stays, and whatever is asked of the log is answered as before: how
+/// far it is durable, and with which stamp; what is settled; the last group's number and stamp; which store
+/// acknowledged the group of any number, and which one lacks it; and what each of the three stores is sent again.
+/// Refused are a log that lets go a group which one store lacks, one that forgets the stamp of the last one that it let
+/// go, one that numbers the rest from 1 again, and one that keeps what is durable.
+pub fn letting_go_changes_no_answer()
+    ensures gone { (log : Log) → (let_go log).gone ≡ durable_seq log }
+    ensures durable { (log : Log) → durable_seq (let_go log) ≡ durable_seq log }
+    ensures stamp { (log : Log) → durable_stamp (let_go log) ≡ durable_stamp log }
+    ensures settled { (log : Log) (scalar : ℕ) → settled (let_go log) scalar ≡ settled log scalar }
+    ensures last { (log : Log) → last_seq (let_go log) ≡ last_seq log }
+    ensures last_stamp { (log : Log) → last_stamp (let_go log) ≡ last_stamp log }
+    ensures marks { (log : Log) (seq store : ℕ) → is_marked (let_go log) seq store ≡ is_marked log seq store }
+    ensures lacking { (log : Log) (seq : ℕ) → lacking (let_go log) seq ≡ lacking log seq }
+    ensures resent { (log : Log) (store : ℕ) → has all_acks store ≡ true → resent (let_go log).groups store ≡ resent log.groups store }
+    ensures order { (log : Log) → IsLog log → IsLog (let_go log) }
 {}

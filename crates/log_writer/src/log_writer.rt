@@ -1,24 +1,30 @@
 //! The log of one writer.
-ghost use Rattle.std.specs.Prelude.{◌≡◌, ◌+◌, ◌<◌, ◌≤◌, [], IfOk, OnOk, OnErr, length};
-ghost use Rattle.log_writer.specs.Log.{acked, acked_at, appended, durable_seq, durable_stamp, IsLog, lacking, last_stamp, reached, resent, settled, stamp_at};
+ghost use Rattle.std.specs.Prelude.{◌≡◌, ◌+◌, ◌<◌, ◌≤◌, ◌^◌, IfOk, OnOk, OnErr, length};
+ghost use Rattle.std.specs.Option.{option_copied};
+ghost use Rattle.log_writer.specs.Log.{acked, appended, appended_all, AreNext, durable_count, durable_seq, durable_stamp, group_of, IsLog, lacking, last_seq, last_stamp, let_go, new_log, numbered, reached, resent, settled};
 
+use crate::rows::{at, drop_front, first_lacking, mark, stamp_at, unacknowledged, walk_on};
 use crate::{Acks, Logged};
 use std::alloc::Global;
+use std::collections::VecDeque;
 use std::marker::Model;
-use tm_base::{Group, GroupList, Mem, Stamp, TryCopy, Writer};
+use tm_base::{Group, GroupList, Mem, NoMemory, Stamp, Writer};
 
 /// At most so many groups are sent again at a time.
 pub const RESENT: usize = 16;
 
-/// The groups that a writer logged, with what the log stores acknowledged of them. Contracts see the
-/// writer and the list of its groups, each with its acknowledgements.
+/// The groups that a writer logged, with what the log stores acknowledged of them, but for those that were let
+/// go from the front once they were durable. Contracts see the writer, how many were let go, the stamp of the
+/// last of these, and the list of the others, each with its acknowledgements.
 ///
-/// `first`, `second` and `third` are what is kept for speed: how many groups from the front on the store
-/// of that number acknowledged, one after another.
+/// `first`, `second` and `third` are what is kept for speed: how many groups from the front of the list on the
+/// store of that number acknowledged, one after another.
 #[derive(Drop)]
 pub struct LogWriter {
     writer: Writer,
-    groups: Vec<Logged>,
+    gone: usize,
+    gone_stamp: Stamp,
+    groups: VecDeque<Logged>,
     first: usize,
     second: usize,
     third: usize,
@@ -30,19 +36,21 @@ impl Model for LogWriter {
 
     ghost Value = { Log };
 
-    ghost view = { λ l. record { writer = l.writer; groups = l.groups.items } };
+    ghost view = { λ l. record { writer = l.writer; gone = l.gone; gone_stamp = l.gone_stamp.0; groups = l.groups.items } };
 
-    ghost invariant = { λ l. IsKept l.writer l.groups.items l.first l.second l.third };
+    ghost invariant = { λ l. IsKept l.writer l.gone l.gone_stamp.0 l.groups.items l.first l.second l.third };
 }
 
 impl LogWriter {
     /// The log of a writer, with no groups.
     pub fn new(alloc: Global, writer: Writer) -> LogWriter
-        ensures { result ≡ record { writer = writer; groups = [] } }
+        ensures { result ≡ new_log writer }
     {
         LogWriter {
             writer,
-            groups: Vec::new(alloc),
+            gone: 0,
+            gone_stamp: Stamp(0),
+            groups: VecDeque::new(alloc),
             first: 0,
             second: 0,
             third: 0,
@@ -59,31 +67,57 @@ impl LogWriter {
     /// The number of the last group, 0 while there is none. The groups are the writer's, numbered from 1
     /// on without gaps, and their stamps rise.
     pub fn last_seq(&self) -> u32
-        ensures value { result ≡ length self.now.groups }
+        ensures value { result ≡ last_seq self.now }
         ensures order { IsLog self.now }
     {
-        self.groups.len() as u32
+        (self.gone + self.groups.len()) as u32
     }
 
     /// The stamp of the last group, 0 while there is none.
     pub fn last_stamp(&self) -> Stamp
-        ensures { result.0 ≡ last_stamp self.now.groups }
+        ensures { result.0 ≡ last_stamp self.now }
     {
-        stamp_at(self.groups.as_slice(), self.groups.len())
+        stamp_at(self.gone_stamp, &self.groups, self.groups.len())
+    }
+
+    /// The group of that number, none where it was let go or isn't logged.
+    pub fn group(&self, seq: u32) -> Option<&Group>
+        ensures { option_copied result ≡ group_of (numbered self.now seq) }
+    {
+        let logged = self.numbered(seq)?;
+        Some(&logged.group)
     }
 
     /// Logs a group, which no store has acknowledged yet. With want of memory nothing changes.
     pub fn append(&mut self, group: Group) -> Mem<()>
         requires own { group.writer ≡ self.old.writer }
-        requires next { group.seq ≡ length self.old.groups + 1 }
-        requires later { last_stamp self.old.groups < group.stamp.0 }
+        requires next { group.seq ≡ last_seq self.old + 1 }
+        requires later { last_stamp self.old < group.stamp.0 }
         ensures ok { OnOk result (self.new ≡ appended self.old group) }
         ensures err { OnErr result (self.new ≡ self.old) }
     {
-        self.groups.push(Logged {
+        let logged = Logged {
             group,
             acks: Acks::new(),
-        })?;
+        };
+        let Ok(()) = self.groups.push_back(logged) else {
+            return Err(NoMemory);
+        };
+        Ok(())
+    }
+
+    /// Logs several groups, one after another, none of which any store has acknowledged yet. With want of memory
+    /// nothing changes.
+    pub fn append_all(&mut self, groups: &GroupList) -> Mem<()>
+        requires next { AreNext self.old.writer (last_seq self.old) (last_stamp self.old) groups.now }
+        requires few { last_seq self.old + length groups.now < 2 ^ 32 }
+        ensures ok { OnOk result (self.new ≡ appended_all self.old groups.now) }
+        ensures err { OnErr result (self.new ≡ self.old) }
+    {
+        let mut more = unacknowledged(*self.groups.allocator(), groups.as_slice())?;
+        let Ok(()) = self.groups.append(&mut more) else {
+            return Err(NoMemory);
+        };
         Ok(())
     }
 
@@ -92,33 +126,51 @@ impl LogWriter {
     pub fn on_ack(&mut self, store: u8, seq: u32)
         ensures { self.new ≡ acked self.old store seq }
     {
-        mark(&mut self.groups, store, seq);
-        self.first = walk_on(self.groups.as_slice(), 1, self.first);
-        self.second = walk_on(self.groups.as_slice(), 2, self.second);
-        self.third = walk_on(self.groups.as_slice(), 3, self.third);
+        mark(
+            &mut self.groups,
+            store,
+            (seq as usize).saturating_sub(self.gone),
+        );
+        self.first = walk_on(&self.groups, 1, self.first);
+        self.second = walk_on(&self.groups, 2, self.second);
+        self.third = walk_on(&self.groups, 3, self.third);
+    }
+
+    /// Lets the durable groups go, which gives back their memory. Whatever is asked of the log is answered as
+    /// before, but for `group` of these.
+    pub fn let_go(&mut self)
+        ensures { self.new ≡ let_go self.old }
+    {
+        let count = self.durable_count();
+        self.gone_stamp = stamp_at(self.gone_stamp, &self.groups, count);
+        drop_front(&mut self.groups, count);
+        self.gone += count;
+        self.first -= count;
+        self.second -= count;
+        self.third -= count;
     }
 
     /// The number of the last group that is durable: it and all before it are acknowledged by all three
     /// log stores. 0 while none is.
     pub fn durable_seq(&self) -> u32
-        ensures { result ≡ durable_seq self.now.groups }
+        ensures { result ≡ durable_seq self.now }
     {
-        self.first.min(self.second).min(self.third) as u32
+        (self.gone + self.durable_count()) as u32
     }
 
     /// The stamp of the last group that is durable, 0 while none is.
     pub fn durable(&self) -> Stamp
-        ensures { result.0 ≡ durable_stamp self.now.groups }
+        ensures { result.0 ≡ durable_stamp self.now }
     {
-        stamp_at(self.groups.as_slice(), self.durable_seq() as usize)
+        stamp_at(self.gone_stamp, &self.groups, self.durable_count())
     }
 
     /// The stamp up to which every change of this writer is durable: one less than the stamp of the first
     /// group that isn't durable, or `scalar`, its clock's, where every group is.
     pub fn settled(&self, scalar: Stamp) -> Stamp
-        ensures { result.0 ≡ settled self.now.groups scalar.0 }
+        ensures { result.0 ≡ settled self.now scalar.0 }
     {
-        match self.groups.get(self.durable_seq() as usize) {
+        match at(&self.groups, self.durable_count()) {
             Some(logged) => Stamp(logged.group.stamp.0 - 1),
             None => scalar,
         }
@@ -127,25 +179,38 @@ impl LogWriter {
     /// The least log store that hasn't acknowledged the group of that number, none where all three have.
     /// A group not yet appended isn't acknowledged by any.
     pub fn lacking(&self, seq: u32) -> Option<u8>
-        ensures { result ≡ lacking self.now.groups seq }
+        ensures { result ≡ lacking self.now seq }
     {
-        if seq == 0 {
-            return Some(1);
+        if seq > 0 && seq as usize <= self.gone {
+            return None;
         }
-        match self.groups.get(seq as usize - 1) {
+        match self.numbered(seq) {
             Some(logged) => logged.acks.least_lacking(),
             None => Some(1),
         }
     }
 
-    /// The [`RESENT`] lowest groups that the store hasn't acknowledged, or all of these where there are
-    /// fewer, in the order of their numbers.
+    /// The [`RESENT`] lowest groups that the store hasn't acknowledged, or all of these that are still here where
+    /// there are fewer, in the order of their numbers.
     pub fn resend(&self, store: u8) -> Mem<GroupList>
         ensures { IfOk result (λ groups. groups ≡ resent self.now.groups store) }
     {
-        let (_, rest) = self.groups.as_slice().split_at(self.reached(store));
-        let groups = first_lacking(*self.groups.allocator(), rest, store)?;
-        Ok(groups)
+        first_lacking(&self.groups, self.reached(store), store)
+    }
+
+    /// The group of a number that is still here, with its acknowledgements.
+    fn numbered(&self, seq: u32) -> Option<&Logged>
+        ensures { option_copied result ≡ numbered self.now seq }
+    {
+        let place = (seq as usize).checked_sub(self.gone + 1)?;
+        at(&self.groups, place)
+    }
+
+    /// How many groups from the front on are durable.
+    fn durable_count(&self) -> usize
+        ensures { result ≡ durable_count self.now.groups }
+    {
+        self.first.min(self.second).min(self.third)
     }
 
     /// How many groups from the front on a store acknowledged.
@@ -160,58 +225,4 @@ impl LogWriter {
             _ => 0,
         }
     }
-}
-
-/// The stamp of the group of that number, 0 for number 0.
-fn stamp_at(groups: &[Logged], seq: usize) -> Stamp
-    requires { seq ≤ length groups.now }
-    ensures { result.0 ≡ stamp_at groups.now seq }
-{
-    if seq == 0 {
-        return Stamp(0);
-    }
-    groups[seq - 1].group.stamp
-}
-
-/// Notes an acknowledgement.
-fn mark(groups: &mut Vec<Logged>, store: u8, seq: u32)
-    ensures { groups.new.items ≡ acked_at groups.old.items store seq }
-{
-    if seq == 0 {
-        return;
-    }
-    if let Some(logged) = groups.get_mut(seq as usize - 1) {
-        logged.acks = logged.acks.with(store);
-    }
-}
-
-/// How many groups from the front on a store acknowledged, where it did so for the first `from`.
-fn walk_on(groups: &[Logged], store: u8, from: usize) -> usize
-    requires { from ≤ reached groups.now store }
-    ensures { result ≡ reached groups.now store }
-{
-    let mut count = from;
-    while count < groups.len() {
-        if !groups[count].acks.has(store) {
-            return count;
-        }
-        count += 1;
-    }
-    count
-}
-
-/// The lowest groups that a store hasn't acknowledged.
-fn first_lacking(alloc: Global, groups: &[Logged], store: u8) -> Mem<GroupList>
-    ensures { IfOk result (λ lacking. lacking ≡ resent groups.now store) }
-{
-    let mut lacking = GroupList::new(alloc);
-    for logged in groups {
-        if lacking.len() == RESENT {
-            return Ok(lacking);
-        }
-        if !logged.acks.has(store) {
-            lacking.push(logged.group.copy()?)?;
-        }
-    }
-    Ok(lacking)
 }

@@ -3,7 +3,7 @@ ghost use Rattle.std.specs.Prelude.{◌≡◌, IfOk};
 use super::*;
 use std::alloc::Global;
 use std::test::Fail;
-use tm_base::{Group, ItemList, Mem, Record, Stamp, Vector, Writer};
+use tm_base::{Group, GroupList, ItemList, Mem, Record, Stamp, Vector, Writer};
 
 /// A group that says nothing.
 fn beat(alloc: Global, writer: Writer, seq: u32, stamp: u64) -> Mem<Group>
@@ -97,5 +97,60 @@ fn what_a_store_lacks_is_sent_again(rt: HostRuntime) -> Result<(), Fail> {
         };
         assert_eq!(rt; (a.seq, b.seq, c.seq), (*first, *second, *last));
     }
+    Ok(())
+}
+
+/// Logs two more groups at once, ten stamps apart. False where the numbers are spent.
+fn log_two(alloc: Global, log: &mut LogWriter) -> Mem<bool> {
+    let seq = log.last_seq();
+    let stamp = log.last_stamp().0;
+    if seq > 1000 || stamp > 1000 {
+        return Ok(false);
+    }
+    let mut groups = GroupList::new(alloc);
+    groups.push(beat(alloc, log.writer(), seq + 1, stamp + 10)?)?;
+    groups.push(beat(alloc, log.writer(), seq + 2, stamp + 20)?)?;
+    log.append_all(&groups)?;
+    Ok(true)
+}
+
+#[test]
+fn durable_groups_are_let_go(rt: HostRuntime) -> Result<(), Fail> {
+    let Ok(mut log) = logged(rt.alloc(), 3) else {
+        return Err(Fail::from("no memory"));
+    };
+    // store, number, and then, once what is durable was let go: the durable number and stamp, and whether groups 1
+    // and 2 are still there
+    let acks: [(u8, u32, u32, u64, bool, bool); 7] = [
+        (1, 1, 0, 0, true, true),
+        (2, 1, 0, 0, true, true),
+        (3, 1, 1, 10, false, true),
+        (1, 3, 1, 10, false, true),
+        (2, 2, 1, 10, false, true),
+        (3, 2, 1, 10, false, true),
+        (1, 2, 2, 20, false, false),
+    ];
+    for (store, seq, durable_seq, durable, first, second) in acks.iter() {
+        log.on_ack(*store, *seq);
+        log.let_go();
+        assert_eq!(rt; log.durable_seq(), *durable_seq);
+        assert_eq!(rt; log.durable(), Stamp(*durable));
+        assert_eq!(rt; log.group(1).is_some(), *first);
+        assert_eq!(rt; log.group(2).is_some(), *second);
+    }
+    assert_eq!(rt; log.settled(Stamp(99)), Stamp(29));
+    assert_eq!(rt; log.lacking(2), None);
+    assert_eq!(rt; log.lacking(3), Some(2));
+    let Ok(true) = log_two(rt.alloc(), &mut log) else {
+        return Err(Fail::from("no memory"));
+    };
+    assert_eq!(rt; (log.last_seq(), log.last_stamp()), (5, Stamp(50)));
+    let Ok(groups) = log.resend(1) else {
+        return Err(Fail::from("no memory"));
+    };
+    let [Some(a), Some(b), None] = [groups.get(0), groups.get(1), groups.get(2)] else {
+        return Err(Fail::from("another number of groups"));
+    };
+    assert_eq!(rt; (a.seq, b.seq), (4, 5));
     Ok(())
 }

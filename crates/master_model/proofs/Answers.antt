@@ -122,23 +122,23 @@ unknown_of w t is = by (is_own w t) (is_ended w t) (sets.contains w.told_open t)
 some_pair : (p q : ℕ × ℕ) → Some p ≡ Some q → (p.0 ≡ q.0) × (p.1 ≡ q.1)
 some_pair p q is = let same : p ≡ q = cc is in (ap (λ (x : ℕ × ℕ). x.0) same, ap (λ (x : ℕ × ℕ). x.1) same)
 
-pub awaited_lacks : (w : Work) (seq store n : ℕ) → awaited w seq ≡ Some (store, n) → lacking w.log.groups n ≡ Some store
+pub awaited_lacks : (w : Work) (seq store n : ℕ) → awaited w seq ≡ Some (store, n) → lacking w.log n ≡ Some store
 awaited_lacks w seq store n is = by (nat_le seq (durable w)) is
   where
-    named : (m s : ℕ) → lacking w.log.groups m ≡ Some s → (s ≡ store) × (m ≡ n) → lacking w.log.groups n ≡ Some store
-    named m s lacks same = ap (λ (i : ℕ). lacking w.log.groups i) (sym same.1) ∙ lacks ∙ ap Some same.0
+    named : (m s : ℕ) → lacking w.log m ≡ Some s → (s ≡ store) × (m ≡ n) → lacking w.log n ≡ Some store
+    named m s lacks same = ap (λ (i : ℕ). lacking w.log i) (sym same.1) ∙ lacks ∙ ap Some same.0
 
-    next : (m : ℕ) (o : Option ℕ) → lacking w.log.groups m ≡ o → ends.awaited_next m o ≡ Some (store, n) → lacking w.log.groups n ≡ Some store
+    next : (m : ℕ) (o : Option ℕ) → lacking w.log m ≡ o → ends.awaited_next m o ≡ Some (store, n) → lacking w.log n ≡ Some store
     next m None lacks k = absurd (cc k)
     next m (Some s) lacks k = named m s lacks (some_pair (s, m) (store, n) k)
 
-    own : (o : Option ℕ) → lacking w.log.groups seq ≡ o → ends.awaited_own w seq o ≡ Some (store, n) → lacking w.log.groups n ≡ Some store
-    own None lacks k = next (durable w + 1) (lacking w.log.groups (durable w + 1)) refl k
+    own : (o : Option ℕ) → lacking w.log seq ≡ o → ends.awaited_own w seq o ≡ Some (store, n) → lacking w.log n ≡ Some store
+    own None lacks k = next (durable w + 1) (lacking w.log (durable w + 1)) refl k
     own (Some s) lacks k = named seq s lacks (some_pair (s, seq) (store, n) k)
 
-    by : (b : Bool) → ends.awaited_if w seq b ≡ Some (store, n) → lacking w.log.groups n ≡ Some store
+    by : (b : Bool) → ends.awaited_if w seq b ≡ Some (store, n) → lacking w.log n ≡ Some store
     by true k = absurd (cc k)
-    by false k = own (lacking w.log.groups seq) refl k
+    by false k = own (lacking w.log seq) refl k
 
 abbrev IfSays : (Work → Answer → Type 0) → Work → Option Answer → Type 0
 IfSays P w None = Unit {0}

@@ -17,6 +17,7 @@ use Rattle.tm_base.specs.declared.reply.Reply.{Reply}
 use Rattle.tm_base.specs.declared.reply.Reply.TheVariants as reply
 use Rattle.page_model.specs.Splits.{Refusal, TooHigh, Wanting, images_on, full_pages, page_above, plan_with}
 use Rattle.page_model.specs.Tree.{path_of}
+use Rattle.log_writer.specs.Log.{last_seq}
 use Rattle.master_model.specs.declared.recovery.Stage.{Stage}
 use Rattle.master_model.specs.declared.recovery.Stage.TheVariants.{Seal, Close, Scan, Take, Undo, Told, Over}
 use Rattle.master_model.specs.State.{Work, Life, Recovery, State, Answer, writer_of}
@@ -95,7 +96,7 @@ reasons session = record {
   put = λ w p leaf path fresh groups room. tt;
   end = λ w in_session own committed groups room.
       let a : Answer = ends in_session own committed (logs w groups) in
-      let seq : ℕ = length (logs w groups).work.log.groups in
+      let seq : ℕ = last_seq (logs w groups).work.log in
       waits_because session w a.work (appends a.work a.groups ++ a.messages) seq (awaited a.work seq) refl;
   left = λ w in_session own rows groups some room. some;
   undone = λ w groups room. tt;

@@ -4,6 +4,7 @@ use Rattle.std.specs.Prelude.{nat_eq, not, length}
 use Rattle.std.specs.List.{AllByRecursion}
 use Rattle.std.specs.FinMap as fin
 use Rattle.tm_data.specs.declared.image.Image.{Image}
+use Rattle.tm_data.specs.declared.log.Group.{Group}
 use Rattle.tm_data.specs.declared.transaction.Page.{Page}
 use Rattle.tm_data.specs.declared.transaction.Txn.{Txn}
 use Rattle.tm_data.specs.declared.transaction.Writer.{Writer}
@@ -24,9 +25,11 @@ use Rattle.master_model.specs.Acks.{ends_between}
 use Rattle.master_model.specs.Leases.{binding, with_images}
 use Rattle.master_model.specs.Step as does
 use Rattle.master_model.specs.Step.{step, start, on_command}
-use Rattle.master_model.specs.Facts.{Brings, Facts, GrantIsBegun, GrantsBegun, IsBegun, LifeFacts, OwnTags, SessionFacts, TagsAreBegun, WorkFacts}
-use Rattle.master_model.proofs.Moves.{Cause, Granted, ClosedFor, with_ack_of}
+use Rattle.master_model.specs.Facts.{Brings, Facts, GrantIsBegun, GrantsBegun, IsBegun, LifeFacts, OwnTags, TagsAreBegun, WorkFacts}
+use Rattle.master_model.proofs.GrowMoves.{GrowsFor, grown_moves}
+use Rattle.master_model.proofs.Moves.{Cause, Granted, with_ack_of}
 use Rattle.master_model.proofs.OpenLemmas.{unended_open}
+use Rattle.master_model.proofs.SessionLemmas as session_lemmas
 use Rattle.master_model.proofs.SessionLemmas.{session_facts}
 use Rattle.master_model.proofs.StepMoves.{Allows, AllowsAck, AllowsFresh, backs_any, command_moves, note_moves_for}
 use Rattle.master_model.proofs.TagLemmas.{unended_own, without_passes}
@@ -40,11 +43,8 @@ abbrev Begun : Work → Cause → Type 0
 Begun w (Granted page epoch stamp tags vector) = AreBegun w tags
 Begun w other = Unit {0}
 
-abbrev Known : Work → Type 0
-Known w = SessionFacts w.log w.begun w.sessions × TagsAreBegun w
-
-abbrev BegunMoves : Work → Work → Type 0
-BegunMoves a b = Known a → Known b
+abbrev Known : List Group → Work → Type 0
+Known gs w = session_lemmas.Known gs w × TagsAreBegun w
 
 binding_begun : (w : Work) (ts : List Tag) → AreBegun w ts → AreBegun w (binding w ts)
 binding_begun w [] h = tt
@@ -85,42 +85,41 @@ module _ (P : Txn → Type 0) where
 
 -- ---- all of it
 
-begun_moves : ClosedFor Begun BegunMoves
+begun_moves : GrowsFor Begun Known
 begun_moves = record {
-  none = λ w h. h;
-  both = λ a b c h k x. k (h x);
-  hears_stamp = λ w stamp is h. h;
-  hears_vector = λ w vector is h. h;
-  acks = λ w store seq is came h. (session_facts.acks w store seq is tt h.0, h.1);
-  acks_more = λ w store seq is came h. (
-    session_facts.acks_more w store seq is tt h.0,
-    λ t at. h.1 t (without_passes w.tags (ends_between (with_ack_of w store seq).log.groups (durable w) (durable (with_ack_of w store seq))) t at).0,
+  hears_stamp = λ w stamp is gs h. h;
+  hears_vector = λ w vector is gs h. h;
+  acks = λ w store seq is came gs h. (session_facts.acks w store seq is tt gs h.0, h.1);
+  acks_more = λ w store seq is came gs h. (
+    session_facts.acks_more w store seq is tt gs h.0,
+    λ t at. h.1 t (without_passes w.tags (ends_between (with_ack_of w store seq).log (durable w) (durable (with_ack_of w store seq))) t at).0,
   );
-  group = λ w records none room h. (session_facts.group w records none room h.0, h.1);
-  change = λ w r stamp page is h. h;
-  grant = λ w page epoch stamp tags vector new brought fits granted h. (
+  let_go = λ w may gs h. (session_facts.let_go w (λ page. tt) gs h.0, h.1);
+  group = λ w records none room gs h. (session_facts.group w records none room gs h.0, h.1);
+  change = λ w r stamp page is gs h. h;
+  grant = λ w page epoch stamp tags vector new brought fits granted gs h. (
     h.0,
     all_with (λ (t : PageTag). IsBegun w t.txn) w.tags page.0 (binding w tags) h.1 (binding_begun w tags granted),
   );
-  image = λ w image held same h. (session_facts.image w image held same h.0, image_begun w _ h.1);
-  fresh_page = λ w page is came h. h;
-  fresh_none = λ w h. h;
-  recall = λ w page epoch came h. h;
-  give_back = λ w page is came h. (h.0, λ t at. h.1 t (left_passes w.tags (λ x. not (is_on page x)) t at).0);
-  release = λ w page epoch is h. h;
-  path = λ w path h. h;
-  end = λ w t is h. (h.0, λ u at. h.1 u (left_passes w.tags (λ x. not (same_txn x.txn t)) u at).0);
-  mark = λ w t is known h. h;
-  name = λ w t h. h;
-  begin = λ w session is h. (session_facts.begin w session is h.0, λ t at own. let two = h.1 t at own in (two.0, omega (arith, two.1)));
-  tag = λ w session page key own is active held h. (
+  image = λ w image held same gs h. (session_facts.image w image held same gs h.0, image_begun w _ h.1);
+  fresh_page = λ w page is came gs h. h;
+  fresh_none = λ w gs h. h;
+  recall = λ w page epoch came gs h. h;
+  give_back = λ w page is came gs h. (h.0, λ t at. h.1 t (left_passes w.tags (λ x. not (is_on page x)) t at).0);
+  release = λ w page epoch is gs h. h;
+  path = λ w path gs h. h;
+  end = λ w t is gs h. (h.0, λ u at. h.1 u (left_passes w.tags (λ x. not (same_txn x.txn t)) u at).0);
+  mark = λ w t is known gs h. h;
+  name = λ w t gs h. h;
+  begin = λ w session is gs h. (session_facts.begin w session is gs h.0, λ t at own. let two = h.1 t at own in (two.0, omega (arith, two.1)));
+  tag = λ w session page key own is active held gs h. (
     h.0,
-    all_inserted (λ (t : PageTag). IsBegun w t.txn) w.tags (page_tag page key (txn_numbered w own.number)) h.1 (λ mine. let f = h.0.each session own is in (f.from_one, f.most)),
+    all_inserted (λ (t : PageTag). IsBegun w t.txn) w.tags (page_tag page key (txn_numbered w own.number)) h.1 (λ mine. let f = h.0.1.each session own is in (f.from_one, f.most)),
   );
-  put = λ w p leaf path fresh count is some h. (session_facts.put w p leaf path fresh count is some h.0, all_after (IsBegun w) w.tags leaf path fresh h.1);
-  session = λ w session own left is going h. (session_facts.session w session own left is going h.0, h.1);
-  ends = λ w session own committed is going room h. (session_facts.ends w session own committed is going room h.0, h.1);
-  free = λ w session own committed seq is at durable h. (session_facts.free w session own committed seq is at durable h.0, h.1);
+  put = λ w p leaf path fresh count is some gs h. (session_facts.put w p leaf path fresh count is some gs h.0, all_after (IsBegun w) w.tags leaf path fresh h.1);
+  session = λ w session own left is going gs h. (session_facts.session w session own left is going gs h.0, h.1);
+  ends = λ w session own committed is going room gs h. (session_facts.ends w session own committed is going room gs h.0, h.1);
+  free = λ w session own committed seq is at durable gs h. (session_facts.free w session own committed seq is at durable gs h.0, h.1);
 }
 
 -- ---- a master
@@ -150,29 +149,29 @@ joined_begun s stamp other h = h
 pub begun_at_start : (number boot stores : ℕ) → OwnTags (start number boot stores).0.life
 begun_at_start number boot stores = tt
 
-pub message_begun : (begun : ℕ) (s : State) (m : Message) → Facts begun s → OwnTags s.life → Brings m → GrantIsBegun s.life m.note → OwnTags (step s m).0.life
-message_begun begun s m f h brings grant = by s.life f h grant
+pub message_begun : (begun : ℕ) (gs : List Group) (s : State) (m : Message) → Facts begun gs s → OwnTags s.life → Brings m → GrantIsBegun s.life m.note → OwnTags (step s m).0.life
+message_begun begun gs s m f h brings grant = by s.life f h grant
   where
-    in_life : (l : Life) (b : Bool) → WorkFacts begun l.work → TagsAreBegun l.work → GrantsBegun l.work m.note → OwnTags (does.step_in s l m b).0.life
+    in_life : (l : Life) (b : Bool) → WorkFacts begun gs l.work → TagsAreBegun l.work → GrantsBegun l.work m.note → OwnTags (does.step_in s l m b).0.life
     in_life l true f k grant = h
     in_life l false f k grant =
         let heard : Life = does.heard l m.stamp.0 in
-        (note_moves_for begun_moves heard m.from m.stamp.0 m.note brings.0 (grants_are heard.work m.from m.note grant) (backs_any Begun (λ w page. tt) m.note) (f.of_sessions, k)).1
+        (note_moves_for (grown_moves begun_moves) heard m.from m.stamp.0 m.note brings.0 (grants_are heard.work m.from m.note grant) (backs_any Begun (λ w page. tt) m.note) gs ((f.of_rest, f.of_sessions), k)).1.1
 
-    by : (o : Option Life) → LifeFacts begun o → OwnTags o → GrantIsBegun o m.note → OwnTags (does.step_by s m o).0.life
+    by : (o : Option Life) → LifeFacts begun gs o → OwnTags o → GrantIsBegun o m.note → OwnTags (does.step_by s m o).0.life
     by None f k grant = joined_begun s m.stamp.0 m.note h
     by (Some l) f k grant = in_life l l.fenced f k grant
 
-pub command_begun : (begun : ℕ) (s : State) (session : ℕ) (asked : Command) → Facts begun s → OwnTags s.life → OwnTags (on_command s session asked).0.life
-command_begun begun s session asked f h = by s.life f h
+pub command_begun : (begun : ℕ) (gs : List Group) (s : State) (session : ℕ) (asked : Command) → Facts begun gs s → OwnTags s.life → OwnTags (on_command s session asked).0.life
+command_begun begun gs s session asked f h = by s.life f h
   where
-    in_life : (l : Life) (b : Bool) → WorkFacts begun l.work → TagsAreBegun l.work → OwnTags (does.command_in s l session asked b).0.life
+    in_life : (l : Life) (b : Bool) → WorkFacts begun gs l.work → TagsAreBegun l.work → OwnTags (does.command_in s l session asked b).0.life
     in_life l true f k = h
-    in_life l false f k = (command_moves begun_moves l session asked (f.of_sessions, k)).1
+    in_life l false f k = (command_moves (grown_moves begun_moves) l session asked gs ((f.of_rest, f.of_sessions), k)).1.1
 
-    by : (o : Option Life) → LifeFacts begun o → OwnTags o → OwnTags (does.command_by s session asked o).0.life
+    by : (o : Option Life) → LifeFacts begun gs o → OwnTags o → OwnTags (does.command_by s session asked o).0.life
     by None f k = h
     by (Some l) f k = in_life l l.fenced f k
 
-pub own_tag_open : (begun : ℕ) (w : Work) (t : PageTag) → WorkFacts begun w → TagsAreBegun w → fin.contains_key w.tags t ≡ true → is_own w t.txn ≡ true → is_open w t.txn.number ≡ true
-own_tag_open begun w t f h at own = let two = h t at own in unended_open w t.txn.number (unended_own w t.txn (f.of_tags.binds t at) own) two.0 two.1
+pub own_tag_open : (begun : ℕ) (gs : List Group) (w : Work) (t : PageTag) → WorkFacts begun gs w → TagsAreBegun w → fin.contains_key w.tags t ≡ true → is_own w t.txn ≡ true → is_open w t.txn.number ≡ true
+own_tag_open begun gs w t f h at own = let two = h t at own in unended_open w t.txn.number (unended_own w t.txn (f.of_tags.binds t at) own) two.0 two.1

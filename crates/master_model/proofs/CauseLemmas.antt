@@ -1,6 +1,6 @@
 -- What a step's changes come from.
-use Rattle.std.proofs.Common.{◌≡◌, ◌-◌, ◌⊎◌, inl, inr, ℕ, Bool, true, false, List, [], Option, Some, None, refl, ap, sym, subst, ◌∙◌, cond, arith}
-use Rattle.std.specs.Prelude.{nat_eq, slice_get}
+use Rattle.std.proofs.Common.{◌≡◌, ◌<◌, ◌≤◌, ◌-◌, ◌⊎◌, inl, inr, ℕ, Bool, true, false, List, [], Option, Some, None, refl, ap, sym, subst, ◌∙◌, cond, arith}
+use Rattle.std.specs.Prelude.{nat_eq, nat_le, nat_lt, ◌&&◌, slice_get}
 use Rattle.std.proofs.lemmas.Bool.Decides.{nat_tests}
 use Rattle.tm_data.specs.declared.image.Image.{Image}
 use Rattle.tm_data.specs.declared.log.Group.{Group}
@@ -13,7 +13,9 @@ use Rattle.tm_base.specs.declared.message.Node.TheVariants.{LogStore}
 use Rattle.tm_base.specs.declared.message.Note.{Note}
 use Rattle.tm_base.specs.declared.message.Note.TheVariants as note
 use Rattle.log_writer.specs.declared.logged.Logged.{Logged}
-use Rattle.log_writer.specs.Log.{Log, acked, appended, is_marked, marked_of}
+use Rattle.log_writer.specs.Acks.{all_acks, has}
+use Rattle.log_writer.specs.Log.{Log, acked, appended, is_marked, let_go, marked_of, new_log}
+use Rattle.log_writer.proofs.LetGoLemmas.{same_marks}
 use Rattle.log_writer.proofs.OrderLemmas.{marks_acked, marks_appended}
 use Rattle.master_model.specs.State.{Work, Life, State, joined}
 use Rattle.master_model.specs.Leases.{with_images}
@@ -71,6 +73,7 @@ writer_moves = record {
   hears_vector = λ w vector brought. refl;
   acks = λ w store seq is came. refl;
   acks_more = λ w store seq is came. refl;
+  let_go = λ w may. refl;
   group = λ w records none room. refl;
   change = λ w r stamp page is. refl;
   grant = λ w page epoch stamp tags vector new brought fits granted. refl;
@@ -97,7 +100,7 @@ writer_moves = record {
 module _ (P : Writer → ℕ → ℕ → Type 0) where
   -- a mark is an old one, or came
   abbrev pub LogMarks : Log → Log → Type 0
-  LogMarks a b = (b.writer ≡ a.writer) × ((seq store : ℕ) → is_marked b.groups seq store ≡ true → (is_marked a.groups seq store ≡ true) ⊎ P b.writer seq store)
+  LogMarks a b = (b.writer ≡ a.writer) × ((seq store : ℕ) → is_marked b seq store ≡ true → (is_marked a seq store ≡ true) ⊎ P b.writer seq store)
 
   abbrev pub Marks : Work → Work → Type 0
   Marks a b = LogMarks a.log b.log
@@ -112,18 +115,18 @@ module _ (P : Writer → ℕ → ℕ → Type 0) where
   marks_both : (a b c : Log) → LogMarks a b → LogMarks b c → LogMarks a c
   marks_both a b c h k = (k.0 ∙ h.0, λ seq store x. by seq store (k.1 seq store x))
     where
-      older : (seq store : ℕ) → (is_marked a.groups seq store ≡ true) ⊎ P b.writer seq store → (is_marked a.groups seq store ≡ true) ⊎ P c.writer seq store
+      older : (seq store : ℕ) → (is_marked a seq store ≡ true) ⊎ P b.writer seq store → (is_marked a seq store ≡ true) ⊎ P c.writer seq store
       older seq store (inl old) = inl old
       older seq store (inr new) = inr (subst (λ (x : Writer). P x seq store) (sym k.0) new)
 
-      by : (seq store : ℕ) → (is_marked b.groups seq store ≡ true) ⊎ P c.writer seq store → (is_marked a.groups seq store ≡ true) ⊎ P c.writer seq store
+      by : (seq store : ℕ) → (is_marked b seq store ≡ true) ⊎ P c.writer seq store → (is_marked a seq store ≡ true) ⊎ P c.writer seq store
       by seq store (inl old) = older seq store (h.1 seq store old)
       by seq store (inr new) = inr new
 
   marks_come : (log : Log) (store seq : ℕ) → P log.writer seq store → LogMarks log (acked log store seq)
   marks_come log store seq came = (refl, λ n s h. by n s (marks_acked log store seq n s h))
     where
-      by : (n s : ℕ) → (is_marked log.groups n s ≡ true) ⊎ ((n ≡ seq) × (s ≡ store)) → (is_marked log.groups n s ≡ true) ⊎ P log.writer n s
+      by : (n s : ℕ) → (is_marked log n s ≡ true) ⊎ ((n ≡ seq) × (s ≡ store)) → (is_marked log n s ≡ true) ⊎ P log.writer n s
       by n s (inl old) = inl old
       by n s (inr new) = inr (subst (λ (i : ℕ). P log.writer i s) (sym new.0) (subst (λ (i : ℕ). P log.writer seq i) (sym new.1) came))
 
@@ -134,6 +137,9 @@ module _ (P : Writer → ℕ → ℕ → Type 0) where
   group_marks : (log : Log) (g : Group) → LogMarks log (appended log g)
   group_marks log g = (refl, λ seq store h. inl (sym (marks_appended log g seq store) ∙ h))
 
+  marks_gone : (log : Log) → LogMarks log (let_go log)
+  marks_gone log = (refl, λ seq store h. inl (sym (same_marks log seq store) ∙ h))
+
   pub mark_moves : ClosedFor Came Marks
   mark_moves = record {
     none = λ w. marks_stay w.log;
@@ -142,6 +148,7 @@ module _ (P : Writer → ℕ → ℕ → Type 0) where
     hears_vector = λ w vector brought. marks_stay w.log;
     acks = λ w store seq is came. marks_come w.log store seq came;
     acks_more = λ w store seq is came. marks_come w.log store seq came;
+    let_go = λ w may. marks_gone w.log;
     group = λ w records none room. group_marks w.log (next_group w records);
     change = λ w r stamp page is. marks_stay w.log;
     grant = λ w page epoch stamp tags vector new brought fits granted. marks_stay w.log;
@@ -238,22 +245,26 @@ acks_allowed m w = by m.from m.note refl refl (brings_its_own w m.from m.note)
 pub marks_of_message : (s : State) (m : Message) (seq store : ℕ) → Brings m → is_noted (step s m).0.life seq store ≡ true → (is_noted s.life seq store ≡ true) ⊎ AcknowledgesOwn (step s m).0.life m seq store
 marks_of_message s m seq store brings =
     new_marks m s.life (step s m).0.life (message_moves (mark_moves (λ writer seq store. Acknowledges m writer seq store)) s m brings (λ l is. acks_allowed m (does.heard l m.stamp.0).work) (backs_any (Came (λ writer seq store. Acknowledges m writer seq store)) (λ w page. tt) m.note))
-    (λ n k is. joins_or_not (λ o. is_noted o n k ≡ false) s m is refl (λ l joins. ap (λ (x : Life). is_noted (Some x) n k) joins.life ∙ unmarked n k)) seq store
+    (λ n k is. joins_or_not (λ o. is_noted o n k ≡ false) s m is refl (λ l joins. ap (λ (x : Life). is_noted (Some x) n k) joins.life ∙ unmarked l.work.log.writer n k)) seq store
   where
     no_groups : List Logged
     no_groups = []
 
-    unmarked : (n k : ℕ) → is_marked [] n k ≡ false
-    unmarked n k = by (nat_eq n 0)
+    -- no group of an empty log is marked
+    unmarked : (writer : Writer) (n k : ℕ) → is_marked (new_log writer) n k ≡ false
+    unmarked writer n k = by (nat_lt 0 n) (nat_le n 0) (nat_eq (n - 0) 0) refl refl
       where
-        by : (b : Bool) → marked_of (cond b None (slice_get no_groups (n - 1))) k ≡ false
-        by true = refl
-        by false = refl
+        by : (a b d : Bool) → nat_lt 0 n ≡ a → nat_le n 0 ≡ b → cond (a && b) (has all_acks k) (marked_of (cond d None (slice_get no_groups (n - 0 - 1))) k) ≡ false
+        by true true d is_a is_b = absurd (let more : 0 < n = grind (arith, nat_tests) in let none : n ≤ 0 = grind (arith, nat_tests) in omega (arith, more, none))
+        by true false true is_a is_b = refl
+        by true false false is_a is_b = refl
+        by false b true is_a is_b = refl
+        by false b false is_a is_b = refl
 
 pub marks_of_command : (s : State) (session : ℕ) (asked : Command) (seq store : ℕ) → is_noted (on_command s session asked).0.life seq store ≡ true → is_noted s.life seq store ≡ true
 marks_of_command s session asked seq store = by s.life (on_command s session asked).0.life refl (λ is. subst (λ (o : Option Life). (does.command_by s session asked o).0.life ≡ None) (sym is) is) (asked_moves (mark_moves (λ writer n k. ⊥)) s session asked)
   where
-    old : (a b : Life) → Marks (λ writer n k. ⊥) a.work b.work → (is_marked a.work.log.groups seq store ≡ true) ⊎ ⊥ → is_marked a.work.log.groups seq store ≡ true
+    old : (a b : Life) → Marks (λ writer n k. ⊥) a.work b.work → (is_marked a.work.log seq store ≡ true) ⊎ ⊥ → is_marked a.work.log seq store ≡ true
     old a b h (inl x) = x
     old a b h (inr x) = absurd x
 

@@ -18,6 +18,7 @@ use Rattle.page_model.specs.Pool.{image_of, used, used_if, without}
 use Rattle.page_model.specs.Splits.{Halves, Refusal, Spot, halves, is_full, images_on, with_image, full_pages, page_above, plan_of, plan_with, groups_below, groups_of_root, half_for, TooHigh, Wanting, spot_of, splitting, splitting_root, if_enough}
 use Rattle.page_model.specs.Tree.{Images, level_of, table_of}
 use Rattle.lease_desk.specs.Desk.{is_held, lease_of}
+use Rattle.log_writer.specs.Log.{last_seq}
 use Rattle.master_model.specs.declared.session.Own.{Own}
 use Rattle.master_model.specs.declared.session.Progress.{Progress}
 use Rattle.lock_table.specs.Tags.{Tags, foreign_on, is_full as tags_full, others_on, page_tag, same_txn, tags_on, takes}
@@ -222,11 +223,11 @@ plan_is row fresh first None (root ∷ below) h = subst (λ (b : Bool). IsPlan (
 abbrev IsDone : Reply → Type 0
 IsDone said = said ≡ reply.Done
 
-room_done : (w : Work) (count most : ℕ) (a : Answer) → count ≤ most → length w.log.groups + most < 2 ^ 32 - 1 → w.clock.scalar + most ≤ 2 ^ 63 - 1 → Answers IsDone a → Answers IsDone (with_room w count a)
+room_done : (w : Work) (count most : ℕ) (a : Answer) → count ≤ most → last_seq w.log + most < 2 ^ 32 - 1 → w.clock.scalar + most ≤ 2 ^ 63 - 1 → Answers IsDone a → Answers IsDone (with_room w count a)
 room_done w count most a less numbers stamps k =
     subst (λ (b : Bool). Answers IsDone (if_room w b (has_stamps w count) a)) (sym numbers_are) (subst (λ (b : Bool). Answers IsDone (if_room w true b a)) (sym stamps_are) k)
   where
-    numbers_fit : length w.log.groups + count < 2 ^ 32 - 1
+    numbers_fit : last_seq w.log + count < 2 ^ 32 - 1
     numbers_fit = omega (arith, less, numbers)
 
     stamps_fit : w.clock.scalar + count ≤ 2 ^ 63 - 1
@@ -258,7 +259,7 @@ not_blocked P o a none k = subst (λ (x : Option Answer). P (fates.unless x a)) 
 planned_done : (w : Work) (p : Put) (path : List Page) (leaf : Image) (upward : List Image) → images_on (here (uses w path)) path ≡ images_on (here w) path → reverse (images_on (here w) path) ≡ upward
     → SplitsFit w.stock (page_above p.row upward) (reverse (full_pages p.row upward))
     → writes.first_missing (here w) (take (writes.fresh_for (full_pages p.row upward) (page_above p.row upward)) w.stock) ≡ None
-    → length w.log.groups + length (full_pages p.row upward) + 1 < 2 ^ 32 - 1 → w.clock.scalar + length (full_pages p.row upward) + 1 ≤ 2 ^ 63 - 1
+    → last_seq w.log + length (full_pages p.row upward) + 1 < 2 ^ 32 - 1 → w.clock.scalar + length (full_pages p.row upward) + 1 ≤ 2 ^ 63 - 1
     → Answers IsDone (writes.put_by p (uses w path) path leaf (plan_of (here (uses w path)) path p.row w.stock (w.clock.scalar + 1)))
 planned_done w p path leaf upward same is splits blank numbers stamps =
     let u : Work = uses w path in

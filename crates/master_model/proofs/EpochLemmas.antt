@@ -143,6 +143,7 @@ module _ (P : ℕ → ℕ → Type 0) where
     hears_vector = λ w vector brought. stay w.leases;
     acks = λ w store seq is came. stay w.leases;
     acks_more = λ w store seq is came. stay w.leases;
+    let_go = λ w may. stay w.leases;
     group = λ w records none room. stay w.leases;
     change = λ w r stamp page is. changed_epochs w.leases page (record { 0 = stamp });
     grant = λ w page epoch stamp tags vector new brought fits granted. granted_epochs w.leases page.0 epoch stamp granted;

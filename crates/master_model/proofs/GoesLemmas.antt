@@ -1,11 +1,11 @@
 -- How a step moves each part of a master's state on.
 use Rattle.std.proofs.Common.{◌≡◌, ◌≤◌, ◌+◌, ◌-◌, ℕ, zero, suc, Bool, true, false, List, [], ◌∷◌, ◌++◌, Option, Some, None, refl, ap, sym, ◌∙◌, cond, arith, append_assoc}
-use Rattle.std.specs.Prelude.{nat_eq, nat_lt, ◌&&◌, ◌||◌, slice_get, slice_set}
+use Rattle.std.specs.Prelude.{nat_eq, nat_le, nat_lt, ◌&&◌, ◌||◌, drop, length, slice_get, slice_set}
 use Rattle.std.specs.List.{prefix_len}
 use Rattle.std.specs.FinMap.{gets}
 use Rattle.std.specs.FinMap as fin
 use Rattle.std.proofs.lemmas.Bool.Decides.{nat_tests}
-use Rattle.std.proofs.lemmas.List.{append-nil}
+use Rattle.std.proofs.lemmas.List.{append-nil, length-append}
 use Rattle.tm_data.specs.declared.image.Image.{Image}
 use Rattle.tm_data.specs.declared.log.Group.{Group}
 use Rattle.tm_data.specs.declared.transaction.Stamp.{Stamp}
@@ -15,8 +15,9 @@ use Rattle.vs_clock.specs.State as clock
 use Rattle.vs_clock.proofs.StateLemmas.{heard_ascends, heard_stamp}
 use Rattle.log_writer.specs.declared.acks.Acks.{Acks}
 use Rattle.log_writer.specs.declared.logged.Logged.{Logged}
-use Rattle.log_writer.specs.Acks.{has, has_all, no_acks, with_ack}
-use Rattle.log_writer.specs.Log.{Log, acked, acked_at, acked_there, appended, durable_seq, is_marked, marked_of}
+use Rattle.log_writer.specs.Acks.{all_acks, has, has_all, with_ack}
+use Rattle.log_writer.specs.Log.{Log, acked, acked_at, acked_there, appended, durable_count, durable_seq, is_marked, last_seq, let_go, marked_of, placed, unacknowledged, was_let_go}
+use Rattle.log_writer.proofs.LetGoLemmas.{same_durable, same_last, same_marks}
 use Rattle.lease_desk.specs.declared.lease.Lease.TheVariants as lease
 use Rattle.lease_desk.specs.declared.lease.PageLease.{PageLease}
 use Rattle.lease_desk.specs.Desk as desk
@@ -29,16 +30,74 @@ use Rattle.master_model.proofs.Moves.{Closed}
 
 -- ---- the log
 
+pub length_in : (ls : List Logged) → length (groups_in ls) ≡ length ls
+length_in [] = refl
+length_in (l ∷ ls) = omega (arith, length_in ls)
+
+drop_none : {X : Type 0} (n : ℕ) (xs : List X) → n ≡ 0 → drop n xs ≡ xs
+drop_none zero xs is = refl
+drop_none (suc n) xs is = absurd (omega (arith, is))
+
+pub drop_left : {X : Type 0} (n : ℕ) (xs ys : List X) → n ≤ length xs → drop n xs ++ ys ≡ drop n (xs ++ ys)
+drop_left zero xs ys less = refl
+drop_left (suc n) [] ys less = absurd (omega (arith, less))
+drop_left (suc n) (x ∷ xs) ys less = drop_left n xs ys (omega (arith, less))
+
+drop_nil : {X : Type 0} (n : ℕ) (xs : List X) → xs ≡ [] → drop n xs ≡ []
+drop_nil zero xs is = is
+drop_nil (suc n) [] is = refl
+drop_nil (suc n) (x ∷ xs) is = absurd (cc is)
+
+pub drop_twice : {X : Type 0} (m n : ℕ) (xs : List X) → drop n (drop m xs) ≡ drop (m + n) xs
+drop_twice zero n xs = let same : n ≡ 0 + n = omega arith in ap (λ (k : ℕ). drop k xs) same
+drop_twice (suc m) n [] = drop_nil n [] refl ∙ sym (drop_nil (suc m + n) [] refl)
+drop_twice (suc m) n (x ∷ xs) = let same : suc (m + n) ≡ suc m + n = omega arith in drop_twice m n xs ∙ ap (λ (k : ℕ). drop k (x ∷ xs)) same
+
+pub groups_dropped : (n : ℕ) (ls : List Logged) → groups_in (drop n ls) ≡ drop n (groups_in ls)
+groups_dropped zero ls = refl
+groups_dropped (suc n) [] = refl
+groups_dropped (suc n) (l ∷ ls) = groups_dropped n ls
+
+-- How the groups of a log go on where none has gone.
+groups_go : (old new : Log) (more : List Group) → new.gone ≡ old.gone → groups_of new ≡ groups_of old ++ more → (xs : List Group) × (last_seq new ≡ last_seq old + length xs) × (groups_of new ≡ drop (new.gone - old.gone) (groups_of old ++ xs))
+groups_go old new more gone is = (
+  more,
+  omega (arith, gone, length_in old.groups, length_in new.groups, ap (λ (gs : List Group). length gs) is, length-append (groups_of old) more),
+  is ∙ sym (drop_none (new.gone - old.gone) (groups_of old ++ more) (omega (arith, gone))),
+)
+
 pub log_stays : (log : Log) → LogGoes log log
-log_stays log = record { writer = refl; groups = ([], sym (append-nil (groups_of log))); marks = λ seq store h. h; durable = omega arith }
+log_stays log = record {
+  writer = refl;
+  gone = omega arith;
+  groups = groups_go log log [] refl (sym (append-nil (groups_of log)));
+  marks = λ seq store h. h;
+  durable = omega arith;
+}
 
 pub log_both : (a b c : Log) → LogGoes a b → LogGoes b c → LogGoes a c
 log_both a b c h k = record {
   writer = k.writer ∙ h.writer;
-  groups = (h.groups.0 ++ k.groups.0, k.groups.1 ∙ (ap (λ (gs : List Group). gs ++ k.groups.0) h.groups.1 ∙ append_assoc (groups_of a) h.groups.0 k.groups.0));
+  gone = omega (arith, h.gone, k.gone);
+  groups = (more, omega (arith, h.groups.1, k.groups.1, length-append h.groups.0 k.groups.0), all);
   marks = λ seq store x. k.marks seq store (h.marks seq store x);
   durable = omega (arith, h.durable, k.durable);
 }
+  where
+    more : List Group
+    more = h.groups.0 ++ k.groups.0
+
+    short : b.gone - a.gone ≤ length (groups_of a ++ h.groups.0)
+    short = omega (arith, h.gone, h.groups.1, length-append (groups_of a) h.groups.0, length_in a.groups, length_in b.groups)
+
+    front : groups_of b ++ k.groups.0 ≡ drop (b.gone - a.gone) (groups_of a ++ more)
+    front =
+        ap (λ (gs : List Group). gs ++ k.groups.0) h.groups.2 ∙ drop_left (b.gone - a.gone) (groups_of a ++ h.groups.0) k.groups.0 short
+        ∙ ap (λ (gs : List Group). drop (b.gone - a.gone) gs) (append_assoc (groups_of a) h.groups.0 k.groups.0)
+
+    all : groups_of c ≡ drop (c.gone - a.gone) (groups_of a ++ more)
+    all = let one : b.gone - a.gone + (c.gone - b.gone) ≡ c.gone - a.gone = omega (arith, h.gone, k.gone) in
+        k.groups.2 ∙ ap (λ (gs : List Group). drop (c.gone - b.gone) gs) front ∙ drop_twice (b.gone - a.gone) (c.gone - b.gone) (groups_of a ++ more) ∙ ap (λ (n : ℕ). drop n (groups_of a ++ more)) one
 
 -- an element in the place of another one
 set_same : (ls : List Logged) (i : ℕ) (x y : Logged) → slice_get ls i ≡ Some x → y.group ≡ x.group → groups_in (slice_set ls i y) ≡ groups_in ls
@@ -91,36 +150,70 @@ all_kept acks store h = by acks.first acks.second acks.third h
     by false b c h = absurd (cc h)
 
 -- what an acknowledgement leaves
-pub record Acked (old new : List Logged) : Type 0 where
+record AckedIn (old new : List Logged) : Type 0 where
   pub same : groups_in new ≡ groups_in old
+  pub marks : (place store : ℕ) → marked_of (placed old place) store ≡ true → marked_of (placed new place) store ≡ true
+  pub durable : durable_count old ≤ durable_count new
+
+pub record Acked (old new : Log) : Type 0 where
+  pub same : groups_of new ≡ groups_of old
   pub marks : (seq store : ℕ) → is_marked old seq store ≡ true → is_marked new seq store ≡ true
   pub durable : durable_seq old ≤ durable_seq new
 
-numbered_marks : (old new : List Logged) → ((n store : ℕ) → marked_of (slice_get old n) store ≡ true → marked_of (slice_get new n) store ≡ true) → (seq store : ℕ) → is_marked old seq store ≡ true → is_marked new seq store ≡ true
-numbered_marks old new h seq store k = by (nat_eq seq 0) k
+placed_marks : (old new : List Logged) → ((n store : ℕ) → marked_of (slice_get old n) store ≡ true → marked_of (slice_get new n) store ≡ true) → (place store : ℕ) → marked_of (placed old place) store ≡ true → marked_of (placed new place) store ≡ true
+placed_marks old new h place store k = by (nat_eq place 0) k
   where
-    by : (b : Bool) → marked_of (cond b None (slice_get old (seq - 1))) store ≡ true → marked_of (cond b None (slice_get new (seq - 1))) store ≡ true
+    by : (b : Bool) → marked_of (cond b None (slice_get old (place - 1))) store ≡ true → marked_of (cond b None (slice_get new (place - 1))) store ≡ true
     by true k = k
-    by false k = h (seq - 1) store k
+    by false k = h (place - 1) store k
 
-pub acked_is : (groups : List Logged) (store seq : ℕ) → Acked groups (acked_at groups store seq)
-acked_is groups store seq = by (nat_eq seq 0) (slice_get groups (seq - 1)) refl
+-- Marks of groups by place are those by number, where as many are gone.
+numbered_marks : (old new : Log) → new.gone ≡ old.gone → ((place store : ℕ) → marked_of (placed old.groups place) store ≡ true → marked_of (placed new.groups place) store ≡ true)
+    → (seq store : ℕ) → is_marked old seq store ≡ true → is_marked new seq store ≡ true
+numbered_marks old new gone h seq store k =
+    ap (λ (n : ℕ). cond (nat_lt 0 seq && nat_le seq n) (has all_acks store) (marked_of (placed new.groups (seq - n)) store)) gone ∙ by (was_let_go old seq) k
   where
-    by : (b : Bool) (there : Option Logged) → slice_get groups (seq - 1) ≡ there → Acked groups (cond b groups (acked_there groups store (seq - 1) there))
+    by : (b : Bool) → cond b (has all_acks store) (marked_of (placed old.groups (seq - old.gone)) store) ≡ true → cond b (has all_acks store) (marked_of (placed new.groups (seq - old.gone)) store) ≡ true
+    by true k = k
+    by false k = h (seq - old.gone) store k
+
+acked_in : (groups : List Logged) (store seq : ℕ) → AckedIn groups (acked_at groups store seq)
+acked_in groups store seq = by (nat_eq seq 0) (slice_get groups (seq - 1)) refl
+  where
+    by : (b : Bool) (there : Option Logged) → slice_get groups (seq - 1) ≡ there → AckedIn groups (cond b groups (acked_there groups store (seq - 1) there))
     by true there is = record { same = refl; marks = λ n s h. h; durable = omega arith }
     by false None is = record { same = refl; marks = λ n s h. h; durable = omega arith }
     by false (Some l) is =
         let new : Logged = record l { acks = with_ack l.acks store } in
         record {
           same = set_same groups (seq - 1) l new is refl;
-          marks = numbered_marks groups (slice_set groups (seq - 1) new) (λ n s. set_marks groups (seq - 1) n s l new is (has_kept l.acks store s));
+          marks = placed_marks groups (slice_set groups (seq - 1) new) (λ n s. set_marks groups (seq - 1) n s l new is (has_kept l.acks store s));
           durable = set_prefix (λ l. has_all l.acks) groups (seq - 1) l new is (all_kept l.acks store);
         }
 
+pub acked_is : (log : Log) (store seq : ℕ) → Acked log (acked log store seq)
+acked_is log store seq =
+    let a = acked_in log.groups store (seq - log.gone) in
+    record { same = a.same; marks = numbered_marks log (acked log store seq) refl a.marks; durable = omega (arith, a.durable) }
+
 pub log_acked : (log : Log) (store seq : ℕ) → LogGoes log (acked log store seq)
 log_acked log store seq =
-    let a = acked_is log.groups store seq in
-    record { writer = refl; groups = ([], a.same ∙ sym (append-nil (groups_of log))); marks = a.marks; durable = a.durable }
+    let a = acked_is log store seq in
+    record { writer = refl; gone = omega arith; groups = groups_go log (acked log store seq) [] refl (a.same ∙ sym (append-nil (groups_of log))); marks = a.marks; durable = a.durable }
+
+pub log_gone : (log : Log) → LogGoes log (let_go log)
+log_gone log =
+    let n : ℕ = durable_count log.groups in
+    record {
+      writer = refl;
+      gone = omega arith;
+      groups = ([], omega (arith, same_last log), groups_dropped n log.groups ∙ (λ i. drop (counted i) (sym (append-nil (groups_of log)) i)));
+      marks = λ seq store h. same_marks log seq store ∙ h;
+      durable = omega (arith, same_durable log);
+    }
+  where
+    counted : durable_count log.groups ≡ durable_seq log - log.gone
+    counted = omega arith
 
 pub groups_pushed : (ls : List Logged) (l : Logged) → groups_in (ls ++ l ∷ []) ≡ groups_in ls ++ l.group ∷ []
 groups_pushed [] l = refl
@@ -141,12 +234,13 @@ push_prefix p (x ∷ ls) l = by (p x) (push_prefix p ls l)
 
 pub log_appended : (log : Log) (g : Group) → LogGoes log (appended log g)
 log_appended log g =
-    let l : Logged = record { group = g; acks = no_acks } in
+    let l : Logged = unacknowledged g in
     record {
       writer = refl;
-      groups = (g ∷ [], groups_pushed log.groups l);
-      marks = numbered_marks log.groups (log.groups ++ l ∷ []) (push_marks log.groups l);
-      durable = push_prefix (λ l. has_all l.acks) log.groups l;
+      gone = omega arith;
+      groups = groups_go log (appended log g) (g ∷ []) refl (groups_pushed log.groups l);
+      marks = numbered_marks log (appended log g) refl (placed_marks log.groups (log.groups ++ l ∷ []) (push_marks log.groups l));
+      durable = omega (arith, push_prefix (λ l. has_all l.acks) log.groups l);
     }
 
 image_log : (w : Work) (o : Option (List Image)) → LogGoes w.log (with_images w o).log
@@ -161,6 +255,7 @@ log_moves = record {
   hears_vector = λ w vector h. log_stays w.log;
   acks = λ w store seq h came. log_acked w.log store seq;
   acks_more = λ w store seq h came. log_acked w.log store seq;
+  let_go = λ w may. log_gone w.log;
   group = λ w records none room. log_appended w.log _;
   change = λ w r stamp page is. log_stays w.log;
   grant = λ w page epoch stamp tags vector new brought fits granted. log_stays w.log;
@@ -224,6 +319,7 @@ clock_moves = record {
   hears_vector = λ w vector h. vector_heard w.clock vector h.0;
   acks = λ w store seq h came. clock_still w.clock;
   acks_more = λ w store seq h came. clock_still w.clock;
+  let_go = λ w may. clock_still w.clock;
   group = λ w records none room. group_ticked w.clock;
   change = λ w r stamp page is. clock_still w.clock;
   grant = λ w page epoch stamp tags vector new brought fits granted.
@@ -314,6 +410,7 @@ epoch_moves = record {
   hears_vector = λ w vector h. epochs_stay w.leases;
   acks = λ w store seq h came. epochs_stay w.leases;
   acks_more = λ w store seq h came. epochs_stay w.leases;
+  let_go = λ w may. epochs_stay w.leases;
   group = λ w records none room. epochs_stay w.leases;
   change = λ w r stamp page is. epochs_changed w.leases page (record { 0 = stamp });
   grant = λ w page epoch stamp tags vector new brought fits granted. epochs_granted w.leases page.0 epoch stamp;

@@ -147,17 +147,17 @@ note_reads l from stamp other h v f =
 
 -- ---- a master
 
-pub message_reads : (begun : ℕ) (s : State) (m : Message) → Facts begun s → Brings m → ReadAreHeard s.life → ReadAreHeard (step s m).0.life
-message_reads begun s m facts brings f = by s.life refl facts f
+pub message_reads : (begun : ℕ) (gs : List Group) (s : State) (m : Message) → Facts begun gs s → Brings m → ReadAreHeard s.life → ReadAreHeard (step s m).0.life
+message_reads begun gs s m facts brings f = by s.life refl facts f
   where
-    in_life : (l : Life) (b : Bool) → WorkFacts begun l.work → ScannedAreHeard l.work.clock l.recovery → ReadAreHeard (does.step_in s l m b).0.life
+    in_life : (l : Life) (b : Bool) → WorkFacts begun gs l.work → ScannedAreHeard l.work.clock l.recovery → ReadAreHeard (does.step_in s l m b).0.life
     in_life l true facts h = f
     in_life l false facts h =
         let heard : Life = does.heard l m.stamp.0 in
         let first = clock_moves.hears_stamp l.work m.stamp.0 brings.1 facts.of_clock.sound.heard_ascends in
         note_reads heard m.from m.stamp.0 m.note brings.0 first.0 (scanned_stay l.work.clock heard.work.clock l.recovery first.1 h)
 
-    by : (o : Option Life) → s.life ≡ o → LifeFacts begun o → ReadAreHeard o → ReadAreHeard (does.step_by s m o).0.life
+    by : (o : Option Life) → s.life ≡ o → LifeFacts begun gs o → ReadAreHeard o → ReadAreHeard (does.step_by s m o).0.life
     by None is facts h = subst (λ (o : Option Life). ReadAreHeard (does.step_by s m o).0.life) is
         (joins_or_not ReadAreHeard s m is tt (λ l joins. subst (λ (x : Life). ScannedAreHeard x.work.clock x.recovery) (sym joins.life) tt))
     by (Some l) is facts h = in_life l l.fenced facts h
@@ -169,15 +169,15 @@ asked_reads asked a s t (Some r) None goes by h = absurd by
 asked_reads asked a s t (Some r) (Some q) goes (inl same) h = subst (λ (x : Recovery). AllByRecursion (GroupHeard t) x.scanned) (sym same) (all_stay s t r.scanned goes h)
 asked_reads asked a s t (Some r) (Some q) goes (inr moves) h = subst (λ (gs : List Group). AllByRecursion (GroupHeard t) gs) (sym moves.scanned) (all_stay s t r.scanned goes h)
 
-pub command_reads : (begun : ℕ) (s : State) (session : ℕ) (asked : Command) → Facts begun s → ReadAreHeard s.life → ReadAreHeard (on_command s session asked).0.life
-command_reads begun s session asked facts f = by s.life facts f
+pub command_reads : (begun : ℕ) (gs : List Group) (s : State) (session : ℕ) (asked : Command) → Facts begun gs s → ReadAreHeard s.life → ReadAreHeard (on_command s session asked).0.life
+command_reads begun gs s session asked facts f = by s.life facts f
   where
-    in_life : (l : Life) (b : Bool) → WorkFacts begun l.work → ScannedAreHeard l.work.clock l.recovery → ReadAreHeard (does.command_in s l session asked b).0.life
+    in_life : (l : Life) (b : Bool) → WorkFacts begun gs l.work → ScannedAreHeard l.work.clock l.recovery → ReadAreHeard (does.command_in s l session asked b).0.life
     in_life l true facts h = f
     in_life l false facts h =
         let new : Life = (does.commanded l session asked).life in
         asked_reads asked new l.work.clock new.work.clock l.recovery new.recovery (command_moves clock_moves l session asked facts.of_clock.sound.heard_ascends).1 (asked_on l session asked).stages h
 
-    by : (o : Option Life) → LifeFacts begun o → ReadAreHeard o → ReadAreHeard (does.command_by s session asked o).0.life
+    by : (o : Option Life) → LifeFacts begun gs o → ReadAreHeard o → ReadAreHeard (does.command_by s session asked o).0.life
     by None facts h = f
     by (Some l) facts h = in_life l l.fenced facts h

@@ -44,7 +44,7 @@ Older a b = (page : ℕ) (body : Left) → fin.get b page ≡ Some body → fin.
 abbrev OlderWork : Work → Work → Type 0
 OlderWork a b = (b.log.writer ≡ a.log.writer) × Older a.left b.left
 
-abbrev NoneBack : Work → Cause → Type 0
+abbrev pub NoneBack : Work → Cause → Type 0
 NoneBack w (GivenBack page) = ⊥
 NoneBack w other = Unit {0}
 
@@ -76,6 +76,7 @@ older_moves = record {
   hears_vector = λ w vector brought. (refl, older_same w.left);
   acks = λ w store seq is came. (refl, older_same w.left);
   acks_more = λ w store seq is came. (refl, older_same w.left);
+  let_go = λ w may. (refl, older_same w.left);
   group = λ w records none room. (refl, older_same w.left);
   change = λ w r stamp page is. (refl, older_same w.left);
   grant = λ w page epoch stamp tags vector new brought fits granted. (refl, older_removed w.left page.0);
@@ -188,13 +189,13 @@ ack_sends w (LogStore store) seq = by (nat_lt (durable w) (durable told))
     by : (b : Bool) → Sends w (acks.on_more told (durable w) b)
     by false = record { writer = refl; kept = λ q l h. inl h }
     by true =
-        let cut : Work = record told { tags = acks.without_all told.tags (acks.ends_between told.log.groups (durable w) (durable told)) } in
+        let cut : Work = record told { tags = acks.without_all told.tags (acks.ends_between told.log (durable w) (durable told)) } in
         let h = all_sends (leases.recalled_pages told) cut in
         let sent : List Message = (leases.releases_all (leases.recalled_pages told) cut).1 in
         record { writer = h.writer; kept = λ q l x. front sent q l (h.kept q l x) }
       where
         front : (sent : List Message) (q : ℕ) (l : Left) → (fin.get w.left q ≡ Some l) ⊎ IsSent (release_note w.log.writer q l) sent
-            → (fin.get w.left q ≡ Some l) ⊎ IsSent (release_note w.log.writer q l) (acks.to_stores (acks.stable (record told { tags = acks.without_all told.tags (acks.ends_between told.log.groups (durable w) (durable told)) })) ++ sent)
+            → (fin.get w.left q ≡ Some l) ⊎ IsSent (release_note w.log.writer q l) (acks.to_stores (acks.stable (record told { tags = acks.without_all told.tags (acks.ends_between told.log (durable w) (durable told)) })) ++ sent)
         front sent q l (inl old) = inl old
         front sent q l (inr new) = inr (inr (inr (inr new)))
 ack_sends w other seq = sends_none w
@@ -226,7 +227,7 @@ none_fresh : (w : Work) (writer : Writer) (page : Option Page) → AllowsFresh N
 none_fresh w writer None = tt
 none_fresh w writer (Some page) = λ is. tt
 
-none_allowed : (w : Work) (from : Node) (n : Note) → Allows NoneBack w from n
+pub none_allowed : (w : Work) (from : Node) (n : Note) → Allows NoneBack w from n
 none_allowed w from (note.Ack writer seq) = none_ack w writer seq from
 none_allowed w from (note.Grant writer page epoch of tags vector) = λ is. tt
 none_allowed w from (note.FreshIs writer nth page) = none_fresh w writer page

@@ -204,6 +204,7 @@ lease_moves = record {
   hears_vector = λ w vector h f. f;
   acks = λ w store seq h came f. f;
   acks_more = λ w store seq h came f. f;
+  let_go = λ w may f. f;
   group = λ w records none room f. f;
   change = λ w r stamp page is f. facts_changed w.leases w.left page (record { 0 = stamp }) f;
   grant = λ w page epoch stamp tags vector new brought fits granted f. facts_granted w.leases w.left page.0 epoch stamp new f;

@@ -4,6 +4,8 @@ mod PlanLemmas
 pub mod Moves
 pub mod StepMoves
 mod GoesLemmas
+pub mod WholeLemmas
+pub mod GrowMoves
 mod LackLemmas
 mod PlaceLemmas
 mod StepGoes
@@ -11,6 +13,7 @@ pub mod FactLemmas
 mod PageLemmas
 pub mod LeaseLemmas
 mod SessionLemmas
+mod SinceLemmas
 mod StepFacts
 mod Answers
 mod ToldLemmas
@@ -33,5 +36,6 @@ mod KeptLemmas
 mod SaidLemmas
 mod DoneLemmas
 mod RestLemmas
+mod LightLemmas
 mod BecauseLemmas
 mod HeardLemmas

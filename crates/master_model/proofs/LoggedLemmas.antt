@@ -1,8 +1,9 @@
 -- What is logged: what it leaves beside the log, and the end that comes last.
-use Rattle.std.proofs.Common.{◌≡◌, ◌<◌, ◌≤◌, ◌⊎◌, ◌+◌, ℕ, Bool, true, false, List, [], ◌∷◌, ◌++◌, Option, Some, None, refl, ap, sym, ◌∙◌, cond, arith, inl, inr}
+use Rattle.std.proofs.Common.{◌≡◌, ◌<◌, ◌≤◌, ◌⊎◌, ◌+◌, ◌-◌, ℕ, Bool, true, false, List, [], ◌∷◌, ◌++◌, Option, Some, None, refl, ap, sym, ◌∙◌, cond, arith, inl, inr}
 use Rattle.std.specs.Prelude.{nat_eq, length, slice_get}
 use Rattle.std.specs.List.{prefix_len}
 use Rattle.std.proofs.lemmas.Bool.Decides.{nat_tests}
+use Rattle.std.proofs.lemmas.List.{length-append}
 use Rattle.tm_data.specs.declared.image.Image.{Image}
 use Rattle.tm_data.specs.declared.log.Group.{Group}
 use Rattle.tm_data.specs.declared.log.Record.{Record}
@@ -14,15 +15,16 @@ use Rattle.page_model.specs.Splits.{images_on, with_image}
 use Rattle.page_model.specs.Tree.{Images}
 use Rattle.vs_clock.specs.State.{told, ticked}
 use Rattle.log_writer.specs.declared.logged.Logged.{Logged}
-use Rattle.log_writer.specs.Acks.{has_all, no_acks}
-use Rattle.log_writer.specs.Log.{Log, appended, durable_seq}
+use Rattle.log_writer.specs.Acks.{has_all}
+use Rattle.log_writer.specs.Log.{Log, appended, durable_seq, last_seq, unacknowledged}
+use Rattle.log_writer.proofs.OrderLemmas.{durable_appended}
 use Rattle.lease_desk.specs.Desk.{is_held, lease_of}
 use Rattle.master_model.specs.State.{Work}
 use Rattle.master_model.specs.Paths as paths
 use Rattle.master_model.specs.Paths.{here, last_of}
 use Rattle.master_model.specs.Logging.{logs, next_group, with_change, with_changes, with_group}
 use Rattle.master_model.specs.Ends.{end_of}
-use Rattle.master_model.specs.Facts.{HasEndAt, groups_in, groups_of}
+use Rattle.master_model.specs.Facts.{HasEndAt}
 
 -- ---- what it leaves
 
@@ -65,42 +67,34 @@ logs_writer w (r ∷ rs) =
 
 -- ---- the last group
 
-last_there : (front : List Logged) (last : Logged) → slice_get (groups_in (front ++ last ∷ [])) (length front) ≡ Some last.group
-last_there [] last = refl
-last_there (x ∷ front) last = last_there front last
+pub last_appended : (log : Log) (g : Group) → last_seq (appended log g) ≡ last_seq log + 1
+last_appended log g = omega (arith, length-append log.groups (unacknowledged g ∷ []))
 
-new_lacked : (p : Logged → Bool) (front : List Logged) (last : Logged) → p last ≡ false → prefix_len p (front ++ last ∷ []) ≤ length front
-new_lacked p [] last is = by (p last) is
+prefix_short : (p : Logged → Bool) (ls : List Logged) → prefix_len p ls ≤ length ls
+prefix_short p [] = omega arith
+prefix_short p (l ∷ ls) = by (p l) (prefix_short p ls)
   where
-    by : (b : Bool) → b ≡ false → cond b (1 + 0) 0 ≤ 0
-    by true h = absurd (cc h)
-    by false h = omega arith
-new_lacked p (x ∷ front) last is = by (p x) (new_lacked p front last is)
-  where
-    by : (b : Bool) → prefix_len p (front ++ last ∷ []) ≤ length front → cond b (1 + prefix_len p (front ++ last ∷ [])) 0 ≤ length (x ∷ front)
+    by : (b : Bool) → prefix_len p ls ≤ length ls → cond b (1 + prefix_len p ls) 0 ≤ length (l ∷ ls)
     by true h = omega (arith, h)
     by false h = omega arith
 
-pushed_same : (p : Logged → Bool) (ls : List Logged) (l : Logged) → p l ≡ false → prefix_len p (ls ++ l ∷ []) ≡ prefix_len p ls
-pushed_same p [] l is = ap (λ (b : Bool). cond b (1 + 0) 0) is
-pushed_same p (x ∷ ls) l is = ap (λ (n : ℕ). cond (p x) (1 + n) 0) (pushed_same p ls l is)
+-- No more is durable than was logged.
+pub durable_most : (log : Log) → durable_seq log ≤ last_seq log
+durable_most log = omega (arith, prefix_short (λ l. has_all l.acks) log.groups)
 
--- One more group leaves what is durable.
-pub durable_appended : (log : Log) (g : Group) → durable_seq (appended log g).groups ≡ durable_seq log.groups
-durable_appended log g = pushed_same (λ l. has_all l.acks) log.groups (record { group = g; acks = no_acks }) refl
+-- One more group isn't durable yet.
+pub isnt_durable : (log : Log) (g : Group) → durable_seq (appended log g) < last_seq log + 1
+isnt_durable log g = omega (arith, durable_appended log g, durable_most log)
 
--- The end is there, and isn't durable yet.
-pub end_at : (log : Log) (g : Group) (t : Txn) (committed : Bool) → g.records ≡ end_of t committed
-    → HasEndAt (groups_of (appended log g)) (length log.groups + 1) t committed × (durable_seq (appended log g).groups < length log.groups + 1)
-end_at log g t committed says = (
-  record {
-    group = g;
-    from_one = omega arith;
-    there = ap (λ (n : ℕ). slice_get (groups_of (appended log g)) n) (omega arith) ∙ last_there log.groups (record { group = g; acks = no_acks });
-    says = says;
-  },
-  omega (arith, new_lacked (λ l. has_all l.acks) log.groups (record { group = g; acks = no_acks }) refl),
-)
+pub last_there : (groups : List Group) (last : Group) → slice_get (groups ++ last ∷ []) (length groups) ≡ Some last
+last_there [] last = refl
+last_there (x ∷ groups) last = last_there groups last
+
+-- An end that is logged last is there.
+pub end_at : (groups : List Group) (seq : ℕ) (g : Group) (t : Txn) (committed : Bool) → seq ≡ length groups → g.records ≡ end_of t committed → HasEndAt (groups ++ g ∷ []) (seq + 1) t committed
+end_at groups seq g t committed is says =
+    let one : seq + 1 - 1 ≡ length groups = omega (arith, is) in
+    record { group = g; from_one = omega arith; there = ap (λ (n : ℕ). slice_get (groups ++ g ∷ []) n) one ∙ last_there groups g; says = says }
 
 -- ---- the leaf of a path
 

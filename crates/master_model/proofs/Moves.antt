@@ -5,7 +5,6 @@ use Rattle.std.specs.Prelude.{nat_eq, nat_lt, nat_le, ◌&&◌, length, take, dr
 use Rattle.std.specs.FinMap as fin
 use Rattle.std.specs.FinSet as sets
 use Rattle.std.proofs.lemmas.Bool.Decides.{nat_tests}
-use Rattle.std.proofs.lemmas.List.{length-append}
 use Rattle.tm_data.specs.declared.image.Image.{Image}
 use Rattle.tm_data.specs.declared.log.Group.{Group}
 use Rattle.tm_data.specs.declared.log.Record.{Record}
@@ -22,7 +21,7 @@ use Rattle.page_model.specs.Effects.{page_of}
 use Rattle.page_model.specs.Splits.{Refusal, TooHigh, Wanting, images_on, plan_of, is_full}
 use Rattle.page_model.specs.Tree.{path_of}
 use Rattle.vs_clock.specs.State.{heard_scalar, told, ticked}
-use Rattle.log_writer.specs.Log.{Log, acked, appended}
+use Rattle.log_writer.specs.Log.{Log, acked, appended, last_seq}
 use Rattle.lease_desk.specs.Desk.{granted, is_held, is_ready, is_releasing, lease_of, recalled, released}
 use Rattle.master_model.specs.declared.session.Own.{Own}
 use Rattle.master_model.specs.declared.session.Progress.{Progress}
@@ -41,24 +40,24 @@ use Rattle.master_model.specs.Writes.{Put, tags_after, with_written}
 use Rattle.master_model.specs.Ends as ends
 use Rattle.master_model.specs.Ends.{Awaited, awaited, free, end_of}
 use Rattle.master_model.specs.Leases.{gives_back, takes_page, with_image}
-use Rattle.master_model.specs.Acks.{ends_between, without_all, ends_in}
+use Rattle.master_model.specs.Acks.{ends_between, without_all, ends_in, lets_go}
 use Rattle.master_model.specs.Facts.{Brought, Sessions, is_at_end}
 use Rattle.master_model.proofs.PlanLemmas.{NoEnds, PlanHasNone, plan_has_none, undo_has_none}
 use Rattle.master_model.proofs.AwaitedLemmas.{none_awaited}
-use Rattle.master_model.proofs.LoggedLemmas.{change_front, changes_front, leaf_held, logs_beside, logs_writer}
+use Rattle.master_model.proofs.LoggedLemmas.{change_front, changes_front, last_appended, leaf_held, logs_beside, logs_writer}
 
 -- ---- the moves
 
 -- So many groups more have numbers and stamps.
 pub record HasRoom (w : Work) (count : ℕ) : Type 0 where
-  pub numbers : length w.log.groups + count < 2 ^ 32 - 1
+  pub numbers : last_seq w.log + count < 2 ^ 32 - 1
   pub stamps : w.clock.scalar + count ≤ 2 ^ 63 - 1
 
 abbrev pub with_ack_of : Work → ℕ → ℕ → Work
 with_ack_of w store seq = record w { log = acked w.log store seq }
 
 abbrev pub without_ended : Work → ℕ → Work
-without_ended w old = record w { tags = without_all w.tags (ends_between w.log.groups old (durable w)) }
+without_ended w old = record w { tags = without_all w.tags (ends_between w.log old (durable w)) }
 
 abbrev pub fresh_taken : Work → Page → Work
 fresh_taken w page = record w {
@@ -75,7 +74,7 @@ begun_in w session = with_session (record w { begun = w.begun + 1 }) session (re
 abbrev pub ended_in : Work → ℕ → Own → Bool → Work
 ended_in w session own committed =
     with_session (record w { clock = told (ticked w.clock); log = appended w.log (next_group w (end_of (txn_numbered w own.number) committed)) }) session
-    (record own { progress = Ended committed (length w.log.groups + 1) })
+    (record own { progress = Ended committed (last_seq w.log + 1) })
 
 -- What moves a writer only at a message: an acknowledgement, a grant, a fresh page, and that a page is recalled or given
 -- back.
@@ -100,6 +99,8 @@ pub record ClosedFor (G : Work → Cause → Type 0) (R : Work → Work → Type
   pub acks : (w : Work) (store seq : ℕ) → nat_lt (durable w) (durable (with_ack_of w store seq)) ≡ false → G w (Acked store seq) → R w (with_ack_of w store seq)
   pub acks_more : (w : Work) (store seq : ℕ) → nat_lt (durable w) (durable (with_ack_of w store seq)) ≡ true → G w (Acked store seq)
       → R w (without_ended (with_ack_of w store seq) (durable w))
+  -- durable groups go only where pages may be given back
+  pub let_go : (w : Work) → ((page : ℕ) → G w (GivenBack page)) → R w (lets_go w)
   pub group : (w : Work) (records : List Record) → ends_in records ≡ [] → HasRoom w 1 → R w (record w { clock = told (ticked w.clock); log = appended w.log (next_group w records) })
   pub change : (w : Work) (r : Record) (stamp page : ℕ) → stamp ≡ w.clock.scalar → R w (with_change w r stamp (Some page))
   -- pages
@@ -140,9 +141,9 @@ pub room_left : (w : Work) (g : Group) (count : ℕ) → HasRoom w (count + 1) �
 room_left w g count room =
     let base : Work = record w { clock = told (ticked w.clock); log = appended w.log g } in
     let same = changes_front base g.records g.stamp.0 in
-    let longer : length base.log.groups ≡ length w.log.groups + 1 = length-append w.log.groups _ in
+    let longer : last_seq base.log ≡ last_seq w.log + 1 = last_appended w.log g in
     record {
-      numbers = omega (arith, room.numbers, longer, ap (λ (l : Log). length l.groups) same.0);
+      numbers = omega (arith, room.numbers, longer, ap (λ (l : Log). last_seq l) same.0);
       stamps = omega (arith, room.stamps, ap (λ (s : _). s.scalar) same.1);
     }
 
@@ -355,13 +356,13 @@ module _ {G : Work → Cause → Type 0} {R : Work → Work → Type 0} (c : Clo
       let both : HasRoom w (length undone + 1) = subst (HasRoom w) (sym is) room in
       let first : R w u = logs_moves w undone none (record { numbers = omega (arith, both.numbers); stamps = omega (arith, both.stamps) }) in
       let last : R u (ended_in u session own committed) = c.ends u session own committed (ap (λ (m : Sessions). fin.get m session) (logs_beside w undone).0 ∙ there) going (rooms_left w undone 1 both) in
-      subst (λ (x : Work). R w (with_session x session (record own { progress = Ended committed (length x.log.groups) }))) (sym (end_last w undone (end_of (txn_numbered w own.number) committed)))
+      subst (λ (x : Work). R w (with_session x session (record own { progress = Ended committed (last_seq x.log) }))) (sym (end_last w undone (end_of (txn_numbered w own.number) committed)))
       (c.both w u _ first (as_ended u session own committed (end_of (txn_numbered w own.number) committed) (ap (λ (x : _). end_of (record { writer = x; number = own.number }) committed) (logs_writer w undone)) last)))
     where
       as_ended : (u : Work) (session : ℕ) (own : Own) (committed : Bool) (records : List Record) → end_of (txn_numbered u own.number) committed ≡ records → R u (ended_in u session own committed)
-          → R u (with_session (with_group u (next_group u records)) session (record own { progress = Ended committed (length (with_group u (next_group u records)).log.groups) }))
-      as_ended u session own committed records is last = subst (λ (rs : List Record). R u (with_session (with_group u (next_group u rs)) session (record own { progress = Ended committed (length (with_group u (next_group u rs)).log.groups) }))) is
-          (subst (λ (n : ℕ). R u (with_session (with_group u (next_group u (end_of (txn_numbered u own.number) committed))) session (record own { progress = Ended committed n }))) (sym (length-append u.log.groups _)) last)
+          → R u (with_session (with_group u (next_group u records)) session (record own { progress = Ended committed (last_seq (with_group u (next_group u records)).log) }))
+      as_ended u session own committed records is last = subst (λ (rs : List Record). R u (with_session (with_group u (next_group u rs)) session (record own { progress = Ended committed (last_seq (with_group u (next_group u rs)).log) }))) is
+          (subst (λ (n : ℕ). R u (with_session (with_group u (next_group u (end_of (txn_numbered u own.number) committed))) session (record own { progress = Ended committed n }))) (sym (last_appended u.log _)) last)
 
   answers_move : (w : Work) (session : ℕ) (own : Own) (committed : Bool) (seq : ℕ) (over : Reply) → fin.get w.sessions session ≡ Some own → own.progress ≡ Ended committed seq
       → R w (ends.answers_end w session over (awaited w seq)).work

@@ -96,7 +96,7 @@ ack_told w (LogStore store) seq = more_told (with_ack_of w store seq) (durable w
 ack_told w other seq = tt
 
 want_told : (w : Work) (wanted : ℕ) → Says (acks.on_want w wanted)
-want_told w wanted = by (nat_lt (last_stamp w.log.groups) wanted) (has_numbers w 1) (has_stamps w 1) refl refl
+want_told w wanted = by (nat_lt (last_stamp w.log) wanted) (has_numbers w 1) (has_stamps w 1) refl refl
   where
     by : (a b d : Bool) → has_numbers w 1 ≡ b → has_stamps w 1 ≡ d → Says (acks.beats w (a && b && d))
     by false b d is_b is_d = tt

@@ -9,24 +9,20 @@ use Rattle.tm_data.specs.declared.image.Image.{Image}
 use Rattle.tm_data.specs.declared.log.Group.{Group}
 use Rattle.tm_data.specs.declared.transaction.Txn.{Txn}
 use Rattle.tm_data.specs.declared.transaction.Writer.{Writer}
-use Rattle.log_writer.specs.Acks.{no_acks}
-use Rattle.log_writer.specs.Log.{Log, acked, appended}
 use Rattle.lock_table.specs.Tags.{same_txn}
 use Rattle.master_model.specs.declared.session.Own.{Own}
 use Rattle.master_model.specs.State.{Work}
 use Rattle.master_model.specs.Acks.{ends_in}
 use Rattle.master_model.specs.Leases.{with_images}
-use Rattle.master_model.specs.Facts.{EndFacts, EndOnce, HasNoEnd, IsOf, SessionFacts, Sessions, all_ends, groups_of, is_at_end}
-use Rattle.master_model.proofs.GoesLemmas.{acked_is, groups_pushed}
-use Rattle.master_model.proofs.Moves.{Closed}
+use Rattle.master_model.specs.Facts.{EndFacts, EndOnce, HasNoEnd, IsOf, SessionFacts, Sessions, Whole, all_ends, is_at_end, whole_of}
+use Rattle.master_model.proofs.GrowMoves.{GrowsFor}
+use Rattle.master_model.proofs.Moves.{AnyCause}
 use Rattle.master_model.proofs.PageLemmas.{all_on, all_pushed}
 use Rattle.master_model.proofs.SessionLemmas.{Found, Here, There, found, gone_here, gone_other, same_at, session_facts}
+use Rattle.master_model.proofs.SessionLemmas as session_lemmas
 
-abbrev pub Known : Work → Type 0
-Known w = SessionFacts w.log w.begun w.sessions × EndFacts (all_ends (groups_of w.log)) w.log.writer w.begun w.sessions
-
-abbrev pub OnceMoves : Work → Work → Type 0
-OnceMoves a b = Known a → Known b
+abbrev pub Known : List Group → Work → Type 0
+Known gs w = session_lemmas.Known gs w × EndFacts (all_ends gs) w.log.writer w.begun w.sessions
 
 abbrev Ends : Type 0
 Ends = List (Txn × Bool)
@@ -37,18 +33,11 @@ ends_pushed : (gs : List Group) (g : Group) → all_ends (gs ++ g ∷ []) ≡ al
 ends_pushed [] g = append-nil (ends_in g.records)
 ends_pushed (x ∷ gs) g = ap (λ (es : Ends). ends_in x.records ++ es) (ends_pushed gs g) ∙ sym (append_assoc (ends_in x.records) (all_ends gs) (ends_in g.records))
 
-ends_appended : (log : Log) (g : Group) → all_ends (groups_of (appended log g)) ≡ all_ends (groups_of log) ++ ends_in g.records
-ends_appended log g = ap all_ends (groups_pushed log.groups (record { group = g; acks = no_acks })) ∙ ends_pushed (groups_of log) g
-
 same_ends : (a b : Ends) (writer : Writer) (begun : ℕ) (sessions : Sessions) → b ≡ a → EndFacts a writer begun sessions → EndFacts b writer begun sessions
 same_ends a b writer begun sessions same f = subst (λ (es : Ends). EndFacts es writer begun sessions) (sym same) f
 
-acked_ends : (w : Work) (store seq : ℕ) → EndFacts (all_ends (groups_of w.log)) w.log.writer w.begun w.sessions → EndFacts (all_ends (groups_of (acked w.log store seq))) w.log.writer w.begun w.sessions
-acked_ends w store seq f = same_ends _ _ w.log.writer w.begun w.sessions (ap all_ends (acked_is w.log.groups store seq).same) f
-
-quiet_ends : (w : Work) (g : Group) → ends_in g.records ≡ [] → EndFacts (all_ends (groups_of w.log)) w.log.writer w.begun w.sessions → EndFacts (all_ends (groups_of (appended w.log g))) w.log.writer w.begun w.sessions
-quiet_ends w g none f =
-    same_ends _ _ w.log.writer w.begun w.sessions (ends_appended w.log g ∙ (ap (λ (es : Ends). all_ends (groups_of w.log) ++ es) none ∙ append-nil (all_ends (groups_of w.log)))) f
+quiet_ends : (gs : List Group) (w : Work) (g : Group) → ends_in g.records ≡ [] → EndFacts (all_ends gs) w.log.writer w.begun w.sessions → EndFacts (all_ends (gs ++ g ∷ [])) w.log.writer w.begun w.sessions
+quiet_ends gs w g none f = same_ends _ _ w.log.writer w.begun w.sessions (ends_pushed gs g ∙ (ap (λ (es : Ends). all_ends gs ++ es) none ∙ append-nil (all_ends gs))) f
 
 -- ---- one more end
 
@@ -103,7 +92,7 @@ begun_ends es writer begun session m own number f = record {
     by other x (There at not) going = f.none other x at going
 
 -- A session ends.
-one_more : (es : Ends) (log : Log) (begun session : ℕ) (m : Sessions) (own new : Own) (committed : Bool) → fin.get m session ≡ Some own → is_at_end own.progress ≡ false → is_at_end new.progress ≡ true → SessionFacts log begun m
+one_more : (es : Ends) (log : Whole) (begun session : ℕ) (m : Sessions) (own new : Own) (committed : Bool) → fin.get m session ≡ Some own → is_at_end own.progress ≡ false → is_at_end new.progress ≡ true → SessionFacts log begun m
     → EndFacts es log.writer begun m → EndFacts (es ++ (record { writer = log.writer; number = own.number }, committed) ∷ []) log.writer begun (fin.insert m session new)
 one_more es log begun session m own new committed is going ended s f = record {
   own = all_pushed (λ (e : Txn × Bool). IsOf log.writer begun e.0) es (t, committed) f.own (let h = s.each session own is in record { own = refl; from_one = h.from_one; most = h.most });
@@ -131,43 +120,42 @@ freed_ends es writer begun session m f = record { own = f.own; once = f.once; no
     still other x k true e = absurd (let n : None ≡ Some x = sym (gone_here m session) ∙ (ap (λ (n : ℕ). fin.get (fin.remove m session) n) (sym (same_at other session e)) ∙ k) in cc n)
     still other x k false e = sym (gone_other m session other e) ∙ k
 
-image_ends : (w : Work) (o : Option (List Image)) → EndFacts (all_ends (groups_of w.log)) w.log.writer w.begun w.sessions
-    → EndFacts (all_ends (groups_of (with_images w o).log)) (with_images w o).log.writer (with_images w o).begun (with_images w o).sessions
-image_ends w None f = f
-image_ends w (Some images) f = f
+image_ends : (gs : List Group) (w : Work) (o : Option (List Image)) → EndFacts (all_ends gs) w.log.writer w.begun w.sessions
+    → EndFacts (all_ends gs) (with_images w o).log.writer (with_images w o).begun (with_images w o).sessions
+image_ends gs w None f = f
+image_ends gs w (Some images) f = f
 
 -- ---- all of it
 
-pub once_moves : Closed OnceMoves
+pub once_moves : GrowsFor AnyCause Known
 once_moves = record {
-  none = λ w h. h;
-  both = λ a b c h k x. k (h x);
-  hears_stamp = λ w stamp is h. h;
-  hears_vector = λ w vector is h. h;
-  acks = λ w store seq is came h. (session_facts.acks w store seq is tt h.0, acked_ends w store seq h.1);
-  acks_more = λ w store seq is came h. (session_facts.acks_more w store seq is tt h.0, acked_ends w store seq h.1);
-  group = λ w records none room h. (session_facts.group w records none room h.0, quiet_ends w _ none h.1);
-  change = λ w r stamp page is h. h;
-  grant = λ w page epoch stamp tags vector new brought fits granted h. h;
-  image = λ w image held same h. (session_facts.image w image held same h.0, image_ends w _ h.1);
-  fresh_page = λ w page is came h. h;
-  fresh_none = λ w h. h;
-  recall = λ w page epoch came h. h;
-  give_back = λ w page is came h. h;
-  release = λ w page epoch is h. h;
-  path = λ w path h. h;
-  end = λ w t is h. h;
-  mark = λ w t is known h. h;
-  name = λ w t h. h;
-  begin = λ w session is h. (session_facts.begin w session is h.0, begun_ends _ w.log.writer w.begun session w.sessions _ refl h.1);
-  tag = λ w session page key own is active held h. h;
-  put = λ w p leaf path fresh count is some h. (session_facts.put w p leaf path fresh count is some h.0, on_ends _ w.log.writer w.begun p.session w.sessions p.own _ is refl (λ k. k) h.1);
-  session = λ w session own left is going h. (session_facts.session w session own left is going h.0, on_ends _ w.log.writer w.begun session w.sessions own _ is refl (λ k. going) h.1);
-  ends = λ w session own committed is going room h. (
-    session_facts.ends w session own committed is going room h.0,
-    same_ends _ _ w.log.writer w.begun _ (ends_appended w.log _) (one_more (all_ends (groups_of w.log)) w.log w.begun session w.sessions own _ committed is going refl h.0 h.1),
+  hears_stamp = λ w stamp is gs h. h;
+  hears_vector = λ w vector is gs h. h;
+  acks = λ w store seq is came gs h. (session_facts.acks w store seq is tt gs h.0, h.1);
+  acks_more = λ w store seq is came gs h. (session_facts.acks_more w store seq is tt gs h.0, h.1);
+  let_go = λ w may gs h. (session_facts.let_go w (λ page. tt) gs h.0, h.1);
+  group = λ w records none room gs h. (session_facts.group w records none room gs h.0, quiet_ends gs w _ none h.1);
+  change = λ w r stamp page is gs h. h;
+  grant = λ w page epoch stamp tags vector new brought fits granted gs h. h;
+  image = λ w image held same gs h. (session_facts.image w image held same gs h.0, image_ends gs w _ h.1);
+  fresh_page = λ w page is came gs h. h;
+  fresh_none = λ w gs h. h;
+  recall = λ w page epoch came gs h. h;
+  give_back = λ w page is came gs h. h;
+  release = λ w page epoch is gs h. h;
+  path = λ w path gs h. h;
+  end = λ w t is gs h. h;
+  mark = λ w t is known gs h. h;
+  name = λ w t gs h. h;
+  begin = λ w session is gs h. (session_facts.begin w session is gs h.0, begun_ends _ w.log.writer w.begun session w.sessions _ refl h.1);
+  tag = λ w session page key own is active held gs h. h;
+  put = λ w p leaf path fresh count is some gs h. (session_facts.put w p leaf path fresh count is some gs h.0, on_ends _ w.log.writer w.begun p.session w.sessions p.own _ is refl (λ k. k) h.1);
+  session = λ w session own left is going gs h. (session_facts.session w session own left is going gs h.0, on_ends _ w.log.writer w.begun session w.sessions own _ is refl (λ k. going) h.1);
+  ends = λ w session own committed is going room gs h. (
+    session_facts.ends w session own committed is going room gs h.0,
+    same_ends _ _ w.log.writer w.begun _ (ends_pushed gs _) (one_more (all_ends gs) (whole_of gs w.log) w.begun session w.sessions own _ committed is going refl h.0.1 h.1),
   );
-  free = λ w session own committed seq is at durable h. (session_facts.free w session own committed seq is at durable h.0, freed_ends _ w.log.writer w.begun session w.sessions h.1);
+  free = λ w session own committed seq is at durable gs h. (session_facts.free w session own committed seq is at durable gs h.0, freed_ends _ w.log.writer w.begun session w.sessions h.1);
 }
 
 -- A writer that has just joined.

@@ -11,7 +11,7 @@ use Rattle.master_model.specs.State.{Work, durable}
 use Rattle.master_model.specs.Fates.{is_open, is_over}
 use Rattle.master_model.specs.Ends.{end_of}
 use Rattle.master_model.specs.Acks.{ends_in}
-use Rattle.master_model.specs.Facts.{DurableEnd, EndOnce, Fits, HasEndAt, HasNoEnd, WorkFacts, all_ends, groups_of, is_at_end, own_txn}
+use Rattle.master_model.specs.Facts.{DurableEnd, EndOnce, Fits, HasEndAt, HasNoEnd, WorkFacts, all_ends, is_at_end, own_txn, whole_of}
 use Rattle.master_model.proofs.OpenLemmas.{OpenIn, open_is_in}
 use Rattle.master_model.proofs.TagLemmas.{all_split, same_itself}
 
@@ -47,23 +47,23 @@ one_place (x ∷ gs) (suc i) (suc j) g h t c d is_g is_h says_g says_h once = ap
 same_seq : (gs : List Group) (a b : ℕ) (t : Txn) (c d : Bool) → HasEndAt gs a t c → HasEndAt gs b t d → EndOnce (all_ends gs) → a ≡ b
 same_seq gs a b t c d h k once = omega (arith, one_place gs (a - 1) (b - 1) h.group k.group t c d h.there k.there h.says k.says once, h.from_one, k.from_one)
 
-pub open_unsettled : (begun : ℕ) (w : Work) (number : ℕ) (committed : Bool) → WorkFacts begun w → is_open w number ≡ true → DurableEnd w.log (own_txn w.log number) committed → ⊥
-open_unsettled begun w number committed f is e = of (open_is_in w number is)
+pub open_unsettled : (begun : ℕ) (gs : List Group) (w : Work) (number : ℕ) (committed : Bool) → WorkFacts begun gs w → is_open w number ≡ true → DurableEnd (whole_of gs w.log) (own_txn w.log.writer number) committed → ⊥
+open_unsettled begun gs w number committed f is e = of (open_is_in w number is)
   where
     of : OpenIn w.sessions (durable w) number → ⊥
     of o = by o.own.progress refl o.goes_on (f.of_sessions.each o.session o.own o.there).fits
       where
-        mine : DurableEnd w.log (own_txn w.log o.own.number) committed
-        mine = subst (λ (n : ℕ). DurableEnd w.log (own_txn w.log n) committed) (sym o.same) e
+        mine : DurableEnd (whole_of gs w.log) (own_txn w.log.writer o.own.number) committed
+        mine = subst (λ (n : ℕ). DurableEnd (whole_of gs w.log) (own_txn w.log.writer n) committed) (sym o.same) e
 
         none : is_at_end o.own.progress ≡ false → ⊥
-        none going = isnt_there (groups_of w.log) (mine.seq - 1) mine.at.group (own_txn w.log o.own.number) committed mine.at.there mine.at.says (f.of_ends.none o.session o.own o.there going)
+        none going = isnt_there gs (mine.seq - 1) mine.at.group (own_txn w.log.writer o.own.number) committed mine.at.there mine.at.says (f.of_ends.none o.session o.own o.there going)
 
-        by : (p : Progress) → o.own.progress ≡ p → is_over (durable w) p ≡ false → Fits w.log o.own.number p → ⊥
+        by : (p : Progress) → o.own.progress ≡ p → is_over (durable w) p ≡ false → Fits (whole_of gs w.log) o.own.number p → ⊥
         by Active at goes fits = none (ap is_at_end at)
         by (Undoing left) at goes fits = none (ap is_at_end at)
         by (Ended outcome seq) at goes fits =
-            let one : seq ≡ mine.seq = same_seq (groups_of w.log) seq mine.seq (own_txn w.log o.own.number) outcome committed fits mine.at f.of_ends.once in
+            let one : seq ≡ mine.seq = same_seq gs seq mine.seq (own_txn w.log.writer o.own.number) outcome committed fits mine.at f.of_ends.once in
             let yes : nat_le seq (durable w) ≡ true = ap (λ (n : ℕ). nat_le n (durable w)) one ∙ below mine.seq (durable w) mine.is_durable in
             let no : nat_le seq (durable w) ≡ false = goes in cc (yes, no)
           where

@@ -282,6 +282,7 @@ page_moves = record {
   hears_vector = λ w vector h f. f;
   acks = λ w store seq h came f. f;
   acks_more = λ w store seq h came f. f;
+  let_go = λ w may f. f;
   group = λ w records none room f. f;
   change = λ w r stamp page is f.
       leases_on w.leases (desk.changed w.leases page (record { 0 = stamp })) _ w.stock (has_changed w.leases page (record { 0 = stamp }))

@@ -179,6 +179,7 @@ place_moves = record {
   hears_vector = λ w vector brought. places_stay w.leases w.left;
   acks = λ w store seq is came. places_stay w.leases w.left;
   acks_more = λ w store seq is came. places_stay w.leases w.left;
+  let_go = λ w may. places_stay w.leases w.left;
   group = λ w records none room. places_stay w.leases w.left;
   change = λ w r stamp page is. places_changed w.leases w.left page (record { 0 = stamp });
   grant = λ w page epoch stamp tags vector new brought fits granted. places_granted w.leases w.left (fin.remove w.left page.0) page.0 epoch stamp new (λ q other. removed_other w.left page.0 q other);

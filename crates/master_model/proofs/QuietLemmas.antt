@@ -242,12 +242,12 @@ answer_quiet : (w : Work) (a : Answer) → IsCalm a → QuietOrAsking a.reply (a
 answer_quiet w a (inl h) = inl h
 answer_quiet w a (inr h) = inr (both_quiet (appends w a.groups) a.messages (groups_quiet w a.groups) h)
 
-life_had : (begun : ℕ) (l : Life) → LifeFacts begun (Some l) → StockHad l.work
-life_had begun l f = f.of_pages.fresh
+life_had : (begun : ℕ) (gs : List Group) (l : Life) → LifeFacts begun gs (Some l) → StockHad l.work
+life_had begun gs l f = f.of_pages.fresh
 
-pub get_quiet : (begun : ℕ) (s : State) (session table : ℕ) (key : List ℕ) → Facts begun s → PathIsHere s.life table key
+pub get_quiet : (begun : ℕ) (gs : List Group) (s : State) (session table : ℕ) (key : List ℕ) → Facts begun gs s → PathIsHere s.life table key
     → QuietOrAsking (on_command s session (command.Get table key)).1 (on_command s session (command.Get table key)).2
-get_quiet begun s session table key f here = by s.life here
+get_quiet begun gs s session table key f here = by s.life here
   where
     in_life : (l : Life) (b : Bool) → PathIsHere (Some l) table key → QuietOrAsking (does.command_in s l session (command.Get table key) b).1 (does.command_in s l session (command.Get table key) b).2
     in_life l true p = inr tt
@@ -261,26 +261,26 @@ put_in_quiet : (s : State) (l : Life) (session table : ℕ) (key : List ℕ) (va
     → QuietOrAsking (writes.put l.work session table key value).reply (appends (writes.put l.work session table key value).work (writes.put l.work session table key value).groups ++ (writes.put l.work session table key value).messages)
 put_in_quiet s l session table key value h p = let a : Answer = writes.put l.work session table key value in answer_quiet a.work a (put_calm l.work session table key value p.0 h p.1)
 
-pub put_quiet : (begun : ℕ) (s : State) (session table : ℕ) (key value : List ℕ) → Facts begun s → PathIsHere s.life table key
+pub put_quiet : (begun : ℕ) (gs : List Group) (s : State) (session table : ℕ) (key value : List ℕ) → Facts begun gs s → PathIsHere s.life table key
     → QuietOrAsking (on_command s session (command.Put table key value)).1 (on_command s session (command.Put table key value)).2
-put_quiet begun s session table key value f here = by s.life f here
+put_quiet begun gs s session table key value f here = by s.life f here
   where
-    in_life : (l : Life) (b : Bool) → LifeFacts begun (Some l) → PathIsHere (Some l) table key → QuietOrAsking (does.command_in s l session (command.Put table key value) b).1 (does.command_in s l session (command.Put table key value) b).2
+    in_life : (l : Life) (b : Bool) → LifeFacts begun gs (Some l) → PathIsHere (Some l) table key → QuietOrAsking (does.command_in s l session (command.Put table key value) b).1 (does.command_in s l session (command.Put table key value) b).2
     in_life l true h p = inr tt
-    in_life l false h p = put_in_quiet s l session table key (Some value) (life_had begun l h) p
+    in_life l false h p = put_in_quiet s l session table key (Some value) (life_had begun gs l h) p
 
-    by : (o : Option Life) → LifeFacts begun o → PathIsHere o table key → QuietOrAsking (does.command_by s session (command.Put table key value) o).1 (does.command_by s session (command.Put table key value) o).2
+    by : (o : Option Life) → LifeFacts begun gs o → PathIsHere o table key → QuietOrAsking (does.command_by s session (command.Put table key value) o).1 (does.command_by s session (command.Put table key value) o).2
     by None h p = inr tt
     by (Some l) h p = in_life l l.fenced h p
 
-pub del_quiet : (begun : ℕ) (s : State) (session table : ℕ) (key : List ℕ) → Facts begun s → PathIsHere s.life table key
+pub del_quiet : (begun : ℕ) (gs : List Group) (s : State) (session table : ℕ) (key : List ℕ) → Facts begun gs s → PathIsHere s.life table key
     → QuietOrAsking (on_command s session (command.Del table key)).1 (on_command s session (command.Del table key)).2
-del_quiet begun s session table key f here = by s.life f here
+del_quiet begun gs s session table key f here = by s.life f here
   where
-    in_life : (l : Life) (b : Bool) → LifeFacts begun (Some l) → PathIsHere (Some l) table key → QuietOrAsking (does.command_in s l session (command.Del table key) b).1 (does.command_in s l session (command.Del table key) b).2
+    in_life : (l : Life) (b : Bool) → LifeFacts begun gs (Some l) → PathIsHere (Some l) table key → QuietOrAsking (does.command_in s l session (command.Del table key) b).1 (does.command_in s l session (command.Del table key) b).2
     in_life l true h p = inr tt
-    in_life l false h p = put_in_quiet s l session table key None (life_had begun l h) p
+    in_life l false h p = put_in_quiet s l session table key None (life_had begun gs l h) p
 
-    by : (o : Option Life) → LifeFacts begun o → PathIsHere o table key → QuietOrAsking (does.command_by s session (command.Del table key) o).1 (does.command_by s session (command.Del table key) o).2
+    by : (o : Option Life) → LifeFacts begun gs o → PathIsHere o table key → QuietOrAsking (does.command_by s session (command.Del table key) o).1 (does.command_by s session (command.Del table key) o).2
     by None h p = inr tt
     by (Some l) h p = in_life l l.fenced h p

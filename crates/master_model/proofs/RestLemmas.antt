@@ -19,8 +19,9 @@ use Rattle.tm_base.specs.declared.message.Note.{Note}
 use Rattle.tm_base.specs.declared.message.Note.TheVariants as note
 use Rattle.vs_clock.specs.State as clock
 use Rattle.log_writer.specs.declared.logged.Logged.{Logged}
-use Rattle.log_writer.specs.Acks.{has_all, no_acks}
-use Rattle.log_writer.specs.Log.{acked_at, appended, durable_seq, settled_before}
+use Rattle.log_writer.specs.Acks.{has_all}
+use Rattle.log_writer.specs.Log.{acked_at, appended, durable_count, settled_before, unacknowledged}
+use Rattle.log_writer.proofs.LetGoLemmas.{same_settled}
 use Rattle.lease_desk.specs.declared.lease.Lease.{Lease}
 use Rattle.lease_desk.specs.declared.lease.Lease.TheVariants as lease
 use Rattle.lease_desk.specs.declared.lease.PageLease.{PageLease}
@@ -116,30 +117,30 @@ rests_granted m page epoch stamp k s fits f =
 
 -- One more group leaves the stamp up to which all is durable.
 settled_pushed : (ls : List Logged) (x : Logged) (s t : ℕ) → has_all x.acks ≡ false → x.group.stamp.0 - 1 ≡ s
-    → settled_before (slice_get (ls ++ x ∷ []) (durable_seq (ls ++ x ∷ []))) t ≡ settled_before (slice_get ls (durable_seq ls)) s
+    → settled_before (slice_get (ls ++ x ∷ []) (durable_count (ls ++ x ∷ []))) t ≡ settled_before (slice_get ls (durable_count ls)) s
 settled_pushed [] x s t none same = ap (λ (b : Bool). settled_before (slice_get (x ∷ []) (cond b (1 + 0) 0)) t) none ∙ same
 settled_pushed (l ∷ ls) x s t none same = by (has_all l.acks) (settled_pushed ls x s t none same)
   where
-    by : (b : Bool) → settled_before (slice_get (ls ++ x ∷ []) (durable_seq (ls ++ x ∷ []))) t ≡ settled_before (slice_get ls (durable_seq ls)) s
-        → settled_before (slice_get (l ∷ ls ++ x ∷ []) (cond b (1 + durable_seq (ls ++ x ∷ [])) 0)) t ≡ settled_before (slice_get (l ∷ ls) (cond b (1 + durable_seq ls) 0)) s
+    by : (b : Bool) → settled_before (slice_get (ls ++ x ∷ []) (durable_count (ls ++ x ∷ []))) t ≡ settled_before (slice_get ls (durable_count ls)) s
+        → settled_before (slice_get (l ∷ ls ++ x ∷ []) (cond b (1 + durable_count (ls ++ x ∷ [])) 0)) t ≡ settled_before (slice_get (l ∷ ls) (cond b (1 + durable_count ls) 0)) s
     by true rest =
-        let left : 1 + durable_seq (ls ++ x ∷ []) ≡ suc (durable_seq (ls ++ x ∷ [])) = omega arith in
-        let right : suc (durable_seq ls) ≡ 1 + durable_seq ls = omega arith in
+        let left : 1 + durable_count (ls ++ x ∷ []) ≡ suc (durable_count (ls ++ x ∷ [])) = omega arith in
+        let right : suc (durable_count ls) ≡ 1 + durable_count ls = omega arith in
         ap (λ (n : ℕ). settled_before (slice_get (l ∷ ls ++ x ∷ []) n) t) left ∙ (rest ∙ ap (λ (n : ℕ). settled_before (slice_get (l ∷ ls) n) s) right)
     by false rest = refl
 
 group_rests : (w : Work) (g : Group) (c : clock.State) → g.stamp.0 - 1 ≡ w.clock.scalar → w.clock.scalar ≤ c.scalar → PagesRest w → PagesRest (record w { clock = c; log = appended w.log g })
 group_rests w g c next less f q = record {
-  waits = ap (λ (n : ℕ). is_ready (lease_of w.leases q) n) (settled_pushed w.log.groups (record { group = g; acks = no_acks }) w.clock.scalar c.scalar refl next) ∙ (f q).waits;
+  waits = ap (λ (n : ℕ). is_ready (lease_of w.leases q) n) (settled_pushed w.log.groups (unacknowledged g) w.clock.scalar c.scalar refl next) ∙ (f q).waits;
   heard = omega (arith, less, (f q).heard);
 }
 
 -- ---- small moves
 
 clock_rests : (w : Work) (c : clock.State) → w.clock.scalar ≤ c.scalar → PagesRest w → PagesRest (record w { clock = c })
-clock_rests w c less f q = rests_later (slice_get w.log.groups (durable_seq w.log.groups)) (lease_of w.leases q) w.clock.scalar c.scalar less (f q)
+clock_rests w c less f q = rests_later (slice_get w.log.groups (durable_count w.log.groups)) (lease_of w.leases q) w.clock.scalar c.scalar less (f q)
 
-abbrev Apart : Work → Cause → Type 0
+abbrev pub Apart : Work → Cause → Type 0
 Apart w (Acked store seq) = ⊥
 Apart w (GivenBack page) = ⊥
 Apart w other = Unit {0}
@@ -162,6 +163,7 @@ rest_moves = record {
   hears_vector = λ w vector brought f. clock_rests w (clock.heard_vector w.clock vector) (omega arith) f;
   acks = λ w store seq is came f. absurd came;
   acks_more = λ w store seq is came f. absurd came;
+  let_go = λ w may f. absurd (may 0);
   group = λ w records none room f. group_rests w (next_group w records) (clock.told (clock.ticked w.clock)) (ticked_next w.clock.scalar) (omega arith) f;
   change = λ w r stamp page is f. rests_changed w.leases page (record { 0 = stamp }) (settled w) w.clock.scalar (omega (arith, is)) f;
   grant = λ w page epoch stamp tags vector new brought fits granted f.
@@ -300,9 +302,14 @@ same_durable a b not less = let most : b ≤ a = grind (arith, nat_tests) in ome
 
 acked_settled : (w : Work) (store seq : ℕ) → nat_lt (durable w) (durable (with_ack_of w store seq)) ≡ false → settled (with_ack_of w store seq) ≡ settled w
 acked_settled w store seq not =
-    let a = acked_is w.log.groups store seq in
-    let same : durable (with_ack_of w store seq) ≡ durable w = same_durable (durable w) (durable (with_ack_of w store seq)) not a.durable in
-    ap (λ (n : ℕ). settled_before (slice_get (acked_at w.log.groups store seq) n) w.clock.scalar) same ∙ settled_groups (acked_at w.log.groups store seq) w.log.groups (durable w) w.clock.scalar a.same
+    let a = acked_is w.log store seq in
+    let new : List Logged = acked_at w.log.groups store (seq - w.log.gone) in
+    let same : durable_count new ≡ durable_count w.log.groups = omega (arith, same_durable (durable w) (durable (with_ack_of w store seq)) not a.durable) in
+    ap (λ (n : ℕ). settled_before (slice_get new n) w.clock.scalar) same ∙ settled_groups new w.log.groups (durable_count w.log.groups) w.clock.scalar a.same
+
+-- The durable groups go.
+gone_rests : (w : Work) → PagesRest w → PagesRest (acks.lets_go w)
+gone_rests w f q = record { waits = ap (λ (n : ℕ). is_ready (lease_of w.leases q) n) (same_settled w.log w.clock.scalar) ∙ (f q).waits; heard = (f q).heard }
 
 ack_rests : (w : Work) (from : Node) (seq : ℕ) → PagesRest w → PagesRest (acks.on_ack w from seq).0
 ack_rests w (LogStore store) seq f = by (nat_lt (durable w) (durable (with_ack_of w store seq))) refl
@@ -311,7 +318,8 @@ ack_rests w (LogStore store) seq f = by (nat_lt (durable w) (durable (with_ack_o
     by false not = λ q. record { waits = ap (λ (n : ℕ). is_ready (lease_of w.leases q) n) (acked_settled w store seq not) ∙ (f q).waits; heard = (f q).heard }
     by true more =
         let told : Work = without_ended (with_ack_of w store seq) (durable w) in
-        all_rest (recalled_pages (with_ack_of w store seq)) told (record { ready = λ q. recalled_among told q (settled told); heard = λ q. (f q).heard })
+        gone_rests (leases.releases_all (recalled_pages (with_ack_of w store seq)) told).0
+        (all_rest (recalled_pages (with_ack_of w store seq)) told (record { ready = λ q. recalled_among told q (settled told); heard = λ q. (f q).heard }))
 ack_rests w other seq f = f
 
 recall_rests : (w : Work) (page epoch : ℕ) → PagesRest w → PagesRest (leases.on_recall w page epoch).0
@@ -369,7 +377,7 @@ own_rests l writer e f h = by (nat_eq writer.0 (writer_of l.work))
     by true = h
     by false = f
 
-fresh_apart : (w : Work) (writer : Writer) (page : Option Page) → AllowsFresh Apart w writer page
+pub fresh_apart : (w : Work) (writer : Writer) (page : Option Page) → AllowsFresh Apart w writer page
 fresh_apart w writer None = tt
 fresh_apart w writer (Some page) = λ is. tt
 

@@ -7,25 +7,24 @@ use Rattle.std.specs.FinMap as fin
 use Rattle.std.proofs.lemmas.Bool.Decides.{nat_tests}
 use Rattle.tm_data.specs.declared.image.Image.{Image}
 use Rattle.tm_data.specs.declared.log.Group.{Group}
-use Rattle.log_writer.specs.Log.{Log, acked, durable_seq, appended}
+use Rattle.tm_data.specs.declared.transaction.Writer.{Writer}
+use Rattle.log_writer.specs.Log.{acked, appended, last_seq, let_go}
 use Rattle.master_model.specs.declared.session.Own.{Own}
 use Rattle.master_model.specs.declared.session.Progress.{Progress}
 use Rattle.master_model.specs.declared.session.Progress.TheVariants.{Active, Undoing, Ended}
 use Rattle.master_model.specs.State.{Work, durable}
 use Rattle.master_model.specs.Leases.{with_images}
-use Rattle.master_model.specs.Goes.{LogGoes}
-use Rattle.master_model.specs.Facts.{EndIsDurable, Fits, HasEndAt, InSession, SessionFact, SessionFacts, Sessions, groups_of, own_txn}
+use Rattle.master_model.specs.Facts.{EndIsDurable, Fits, HasEndAt, InSession, IsRestOf, SessionFact, SessionFacts, Sessions, Whole, own_txn, whole_of}
 use Rattle.master_model.specs.Logging.{next_group}
 use Rattle.master_model.specs.Ends.{end_of}
 use Rattle.master_model.proofs.LoggedLemmas.{end_at}
-use Rattle.master_model.proofs.Moves.{Closed}
-use Rattle.master_model.proofs.GoesLemmas.{log_acked, log_appended}
+use Rattle.master_model.proofs.GrowMoves.{GrowsFor}
+use Rattle.master_model.proofs.Moves.{AnyCause}
+use Rattle.master_model.proofs.WholeLemmas.{WholeGoes, rest_acked, rest_appended, rest_gone, whole_acked, whole_appended, whole_gone, whole_length}
 
-abbrev Known : Work → Type 0
-Known w = SessionFacts w.log w.begun w.sessions
-
-abbrev pub SessionMoves : Work → Work → Type 0
-SessionMoves a b = Known a → Known b
+-- Of a work's sessions, and of all groups of its writer.
+abbrev pub Known : List Group → Work → Type 0
+Known gs w = IsRestOf gs w.log × SessionFacts (whole_of gs w.log) w.begun w.sessions
 
 -- ---- the log goes on
 
@@ -34,25 +33,25 @@ found_left [] ys i g is = absurd (cc is)
 found_left (x ∷ xs) ys zero g is = is
 found_left (x ∷ xs) ys (suc i) g is = found_left xs ys i g is
 
-end_stays : (a b : Log) (seq number : ℕ) (committed : Bool) → LogGoes a b → HasEndAt (groups_of a) seq (own_txn a number) committed → HasEndAt (groups_of b) seq (own_txn b number) committed
+end_stays : (a b : Whole) (seq number : ℕ) (committed : Bool) → WholeGoes a b → HasEndAt a.groups seq (own_txn a.writer number) committed → HasEndAt b.groups seq (own_txn b.writer number) committed
 end_stays a b seq number committed goes e =
-    subst (λ (x : _). HasEndAt (groups_of b) seq (record { writer = x; number = number }) committed) (sym goes.writer)
+    subst (λ (x : Writer). HasEndAt b.groups seq (own_txn x number) committed) (sym goes.writer)
     (record {
       group = e.group;
       from_one = e.from_one;
-      there = ap (λ (gs : List Group). slice_get gs (seq - 1)) goes.groups.1 ∙ found_left (groups_of a) goes.groups.0 (seq - 1) e.group e.there;
+      there = ap (λ (gs : List Group). slice_get gs (seq - 1)) goes.groups.1 ∙ found_left a.groups goes.groups.0 (seq - 1) e.group e.there;
       says = e.says;
     })
 
-fits_stay : (a b : Log) (number : ℕ) (p : Progress) → LogGoes a b → Fits a number p → Fits b number p
+fits_stay : (a b : Whole) (number : ℕ) (p : Progress) → WholeGoes a b → Fits a number p → Fits b number p
 fits_stay a b number Active goes f = tt
 fits_stay a b number (Undoing left) goes f = tt
 fits_stay a b number (Ended committed seq) goes f = end_stays a b seq number committed goes f
 
-pub durable_stays : (a b : Log) (number : ℕ) → LogGoes a b → EndIsDurable a number → EndIsDurable b number
+pub durable_stays : (a b : Whole) (number : ℕ) → WholeGoes a b → EndIsDurable a number → EndIsDurable b number
 durable_stays a b number goes e = (e.0, record { seq = e.1.seq; at = end_stays a b e.1.seq number e.0 goes e.1.at; is_durable = omega (arith, e.1.is_durable, goes.durable) })
 
-log_goes : (a b : Log) (begun : ℕ) (sessions : Sessions) → LogGoes a b → SessionFacts a begun sessions → SessionFacts b begun sessions
+log_goes : (a b : Whole) (begun : ℕ) (sessions : Sessions) → WholeGoes a b → SessionFacts a begun sessions → SessionFacts b begun sessions
 log_goes a b begun sessions goes f = record {
   each = λ session own is. let e = f.each session own is in record { from_one = e.from_one; most = e.most; fits = fits_stay a b own.number own.progress goes e.fits };
   apart = f.apart;
@@ -98,7 +97,7 @@ found m session own other x is = by (nat_eq other session) refl
     by false at = There (sym (put_other m session other own at) ∙ is) at
 
 -- A session has a transaction of which no other one has the number.
-put_facts : (log : Log) (begun most session : ℕ) (m : Sessions) (own : Own) → SessionFact log most own → begun ≤ most
+put_facts : (log : Whole) (begun most session : ℕ) (m : Sessions) (own : Own) → SessionFact log most own → begun ≤ most
     → ((other : ℕ) (x : Own) → fin.get m other ≡ Some x → nat_eq other session ≡ false → x.number ≡ own.number → other ≡ session)
     → ((number : ℕ) → 1 ≤ number → number ≤ most → InSession (fin.insert m session own) number ⊎ EndIsDurable log number)
     → SessionFacts log begun m → SessionFacts log most (fin.insert m session own)
@@ -119,7 +118,7 @@ put_facts log begun most session m own new more alone known f = record {
     apart a b x y same (There is not) (There is' not') = f.apart a b x y is is' same
 
 -- A session goes on with its transaction.
-on_with : (log : Log) (begun session : ℕ) (m : Sessions) (old own : Own) → fin.get m session ≡ Some old → own.number ≡ old.number → Fits log own.number own.progress → SessionFacts log begun m
+on_with : (log : Whole) (begun session : ℕ) (m : Sessions) (old own : Own) → fin.get m session ≡ Some old → own.number ≡ old.number → Fits log own.number own.progress → SessionFacts log begun m
     → SessionFacts log begun (fin.insert m session own)
 on_with log begun session m old own is same fits f = put_facts log begun begun session m own new (omega arith) alone known f
   where
@@ -143,7 +142,7 @@ on_with log begun session m old own is same fits f = put_facts log begun begun s
     known number from most = by number (f.known number from most)
 
 -- A session begins.
-begins : (log : Log) (begun session : ℕ) (m : Sessions) (own : Own) → own.number ≡ begun + 1 → own.progress ≡ Active → fin.get m session ≡ None → SessionFacts log begun m
+begins : (log : Whole) (begun session : ℕ) (m : Sessions) (own : Own) → own.number ≡ begun + 1 → own.progress ≡ Active → fin.get m session ≡ None → SessionFacts log begun m
     → SessionFacts log (begun + 1) (fin.insert m session own)
 begins log begun session m own number active none f = put_facts log begun (begun + 1) session m own new (omega arith) alone known f
   where
@@ -169,7 +168,7 @@ begins log begun session m own number active none f = put_facts log begun (begun
     known n from most = known_by n from most (nat_eq n (begun + 1)) refl
 
 -- A session is free, once its end is durable.
-frees : (log : Log) (begun session : ℕ) (m : Sessions) (own : Own) (committed : Bool) (seq : ℕ) → fin.get m session ≡ Some own → own.progress ≡ Ended committed seq → seq ≤ durable_seq log.groups
+frees : (log : Whole) (begun session : ℕ) (m : Sessions) (own : Own) (committed : Bool) (seq : ℕ) → fin.get m session ≡ Some own → own.progress ≡ Ended committed seq → seq ≤ log.durable
     → SessionFacts log begun m → SessionFacts log begun (fin.remove m session)
 frees log begun session m own committed seq is at durable f = record {
   each = λ other x k. f.each other x (still other x k);
@@ -197,46 +196,57 @@ frees log begun session m own committed seq is at durable f = record {
             let one : s.own ≡ own = some_is s.own own (sym s.there ∙ (ap (λ (n : ℕ). fin.get m n) (same_at s.session session e) ∙ is)) in
             inr (subst (EndIsDurable log) (sym (ap (λ (o : Own). o.number) one) ∙ s.same) ends)
 
-image_known : (w : Work) (o : Option (List Image)) → SessionMoves w (with_images w o)
-image_known w None f = f
-image_known w (Some images) f = f
+image_known : (w : Work) (o : Option (List Image)) (gs : List Group) → Known gs w → Known gs (with_images w o)
+image_known w None gs f = f
+image_known w (Some images) gs f = f
 
-pub session_facts : Closed SessionMoves
+acked_known : (w : Work) (store seq : ℕ) (gs : List Group) → Known gs w → Known gs (record w { log = acked w.log store seq })
+acked_known w store seq gs f = (rest_acked gs w.log store seq f.0, log_goes (whole_of gs w.log) (whole_of gs (acked w.log store seq)) w.begun w.sessions (whole_acked gs w.log store seq) f.1)
+
+logged_known : (w : Work) (g : Group) (gs : List Group) → Known gs w → Known (gs ++ g ∷ []) (record w { log = appended w.log g })
+logged_known w g gs f = (rest_appended gs w.log g f.0, log_goes (whole_of gs w.log) (whole_of (gs ++ g ∷ []) (appended w.log g)) w.begun w.sessions (whole_appended gs w.log g) f.1)
+
+gone_known : (w : Work) (gs : List Group) → Known gs w → Known gs (record w { log = let_go w.log })
+gone_known w gs f = (rest_gone gs w.log f.0, subst (λ (x : Whole). SessionFacts x w.begun w.sessions) (sym (whole_gone gs w.log)) f.1)
+
+pub session_facts : GrowsFor AnyCause Known
 session_facts = record {
-  none = λ w f. f;
-  both = λ a b c h k f. k (h f);
-  hears_stamp = λ w stamp h f. f;
-  hears_vector = λ w vector h f. f;
-  acks = λ w store seq h came f. log_goes w.log (acked w.log store seq) w.begun w.sessions (log_acked w.log store seq) f;
-  acks_more = λ w store seq h came f. log_goes w.log (acked w.log store seq) w.begun w.sessions (log_acked w.log store seq) f;
-  group = λ w records none room f. log_goes w.log _ w.begun w.sessions (log_appended w.log _) f;
-  change = λ w r stamp page is f. f;
-  grant = λ w page epoch stamp tags vector new brought fits granted f. f;
+  hears_stamp = λ w stamp h gs f. f;
+  hears_vector = λ w vector h gs f. f;
+  acks = λ w store seq h came. acked_known w store seq;
+  acks_more = λ w store seq h came gs f. acked_known w store seq gs f;
+  let_go = λ w may. gone_known w;
+  group = λ w records none room gs f. logged_known w _ gs f;
+  change = λ w r stamp page is gs f. f;
+  grant = λ w page epoch stamp tags vector new brought fits granted gs f. f;
   image = λ w image held same. image_known w _;
-  fresh_page = λ w page is came f. f;
-  fresh_none = λ w f. f;
-  recall = λ w page epoch came f. f;
-  give_back = λ w page is came f. f;
-  release = λ w page epoch is f. f;
-  path = λ w path f. f;
-  end = λ w t is f. f;
-  mark = λ w t is known f. f;
-  name = λ w t f. f;
-  begin = λ w session is f. begins w.log w.begun session w.sessions _ refl refl is f;
-  tag = λ w session page key own is active held f. f;
-  put = λ w p leaf path fresh count is some f. on_with w.log w.begun p.session w.sessions p.own _ is refl (f.each p.session p.own is).fits f;
-  session = λ w session own left is going f. on_with w.log w.begun session w.sessions own _ is refl tt f;
-  ends = λ w session own committed is going room f.
-      on_with (appended w.log _) w.begun session w.sessions own _ is refl (end_at w.log (next_group w (end_of (own_txn w.log own.number) committed)) (own_txn w.log own.number) committed refl).0
-      (log_goes w.log _ w.begun w.sessions (log_appended w.log _) f);
-  free = λ w session own committed seq is at durable f. frees w.log w.begun session w.sessions own committed seq is at durable f;
+  fresh_page = λ w page is came gs f. f;
+  fresh_none = λ w gs f. f;
+  recall = λ w page epoch came gs f. f;
+  give_back = λ w page is came gs f. f;
+  release = λ w page epoch is gs f. f;
+  path = λ w path gs f. f;
+  end = λ w t is gs f. f;
+  mark = λ w t is known gs f. f;
+  name = λ w t gs f. f;
+  begin = λ w session is gs f. (f.0, begins (whole_of gs w.log) w.begun session w.sessions _ refl refl is f.1);
+  tag = λ w session page key own is active held gs f. f;
+  put = λ w p leaf path fresh count is some gs f. (f.0, on_with (whole_of gs w.log) w.begun p.session w.sessions p.own _ is refl (f.1.each p.session p.own is).fits f.1);
+  session = λ w session own left is going gs f. (f.0, on_with (whole_of gs w.log) w.begun session w.sessions own _ is refl tt f.1);
+  ends = λ w session own committed is going room gs f.
+      let g : Group = next_group w (end_of (own_txn w.log.writer own.number) committed) in
+      let all = logged_known w g gs f in (
+        all.0,
+        on_with (whole_of (gs ++ g ∷ []) (appended w.log g)) w.begun session w.sessions own _ is refl (end_at gs (last_seq w.log) g (own_txn w.log.writer own.number) committed (whole_length gs w.log f.0) refl) all.1,
+      );
+  free = λ w session own committed seq is at durable gs f. (f.0, frees (whole_of gs w.log) w.begun session w.sessions own committed seq is at durable f.1);
 }
 
 abbrev no_map : Sessions
 no_map = fin.empty
 
 -- A writer that has just joined.
-pub no_sessions : (log : Log) → SessionFacts log 0 fin.empty
+pub no_sessions : (log : Whole) → SessionFacts log 0 fin.empty
 no_sessions log = record {
   each = λ session own is. absurd (none session own is);
   apart = λ a b x y is k same. absurd (none a x is);

@@ -1,79 +1,144 @@
--- What holds of a master's log and clock holds after each message and each command.
-use Rattle.std.proofs.Common.{◌≤◌, ◌-◌, ◌^◌, ℕ, Bool, true, false, Option, Some, None}
+-- What holds of a master and of all groups that its writer logged holds after each message and each command.
+use Rattle.std.proofs.Common.{◌≡◌, ◌≤◌, ◌-◌, ◌^◌, ℕ, Bool, true, false, List, [], ◌++◌, Option, Some, None, refl, ap, sym, subst, ◌∙◌, arith}
 use Rattle.std.specs.Prelude.{nat_eq}
+use Rattle.std.proofs.lemmas.List.{append-nil, drop_all}
+use Rattle.tm_data.specs.declared.log.Group.{Group}
 use Rattle.tm_base.specs.declared.command.Command.{Command}
 use Rattle.tm_base.specs.declared.message.Message.{Message}
 use Rattle.tm_base.specs.declared.message.Note.{Note}
 use Rattle.tm_base.specs.declared.message.Note.TheVariants as note
-use Rattle.master_model.specs.State.{Work, Life, State, joined}
+use Rattle.log_writer.specs.Log.{Log, last_seq}
+use Rattle.master_model.specs.State.{Work, Life, State}
 use Rattle.master_model.specs.Step as does
 use Rattle.master_model.specs.Step.{step, on_command}
-use Rattle.master_model.specs.Facts.{Brings, BringsNote, Facts, JoinsAfter, LifeFacts, LeaseFacts, PageFacts, SessionFacts, TagFacts, WorkFacts, EndFacts, all_ends, groups_of}
+use Rattle.master_model.specs.Facts.{Brings, BringsNote, Facts, JoinsAfter, LeaseFacts, LifeFacts, WorkFacts, groups_of, logged_by}
+use Rattle.master_model.specs.Logging.{logged_since}
 use Rattle.master_model.specs.Goes.{Goes}
-use Rattle.master_model.proofs.StepMoves.{note_moves, command_moves}
 use Rattle.master_model.proofs.FactLemmas.{Front, front_moves, front_joined}
+use Rattle.master_model.proofs.GoesLemmas.{length_in}
+use Rattle.master_model.proofs.GrowMoves.{Grown, both_grow, grown_moves}
 use Rattle.master_model.proofs.LeaseLemmas.{lease_moves, no_leases}
-use Rattle.master_model.proofs.SessionLemmas.{no_sessions}
-use Rattle.master_model.proofs.TagLemmas.{Known, tag_moves}
+use Rattle.master_model.proofs.Moves.{Closed}
+use Rattle.master_model.proofs.OnceLemmas as once_lemmas
 use Rattle.master_model.proofs.OnceLemmas.{no_ends, once_moves}
-use Rattle.master_model.proofs.TagSetLemmas.{all_none}
+use Rattle.master_model.proofs.SessionLemmas.{no_sessions}
+use Rattle.master_model.proofs.SinceLemmas.{command_gone, note_gone}
 use Rattle.master_model.proofs.StepGoes.{HasVector, command_goes, step_goes}
+use Rattle.master_model.proofs.StepMoves.{note_moves, command_moves}
+use Rattle.master_model.proofs.TagLemmas as tag_lemmas
+use Rattle.master_model.proofs.TagLemmas.{tag_moves}
+use Rattle.master_model.proofs.TagSetLemmas.{all_none}
+use Rattle.master_model.proofs.WholeLemmas.{logged_is}
 
-front_of : (start : ℕ) (w : Work) → WorkFacts start w → Front start w.log w.clock
-front_of start w f = (f.of_log, f.of_clock)
+-- All that is known of a work and of its writer's groups, but for its leases.
+abbrev Known : ℕ → List Group → Work → Type 0
+Known start gs w = Front start gs w.log w.clock × (tag_lemmas.Known gs w × once_lemmas.Known gs w)
 
-known_of : (start : ℕ) (w : Work) → WorkFacts start w → Known w
-known_of start w f = (f.of_pages, f.of_sessions, f.of_tags)
+all_moves : (start : ℕ) → Closed (Grown (Known start))
+all_moves start = grown_moves (both_grow (front_moves start) (both_grow tag_moves once_moves))
 
-facts_to : (start : ℕ) (s : State) (l : Life) → Front start l.work.log l.work.clock → PageFacts l.work.leases l.work.pool.images l.work.stock → LeaseFacts l.work.leases l.work.left → SessionFacts l.work.log l.work.begun l.work.sessions → TagFacts l.work
-    → EndFacts (all_ends (groups_of l.work.log)) l.work.log.writer l.work.begun l.work.sessions → Facts start (record s { life = Some l })
-facts_to start s l h pages leases sessions tags ends = record { of_log = h.0; of_clock = h.1; of_pages = pages; of_leases = leases; of_sessions = sessions; of_tags = tags; of_ends = ends }
+known_of : (start : ℕ) (gs : List Group) (w : Work) → WorkFacts start gs w → Known start gs w
+known_of start gs w f = (
+  record { of_rest = f.of_rest; of_log = f.of_log; of_clock = f.of_clock },
+  ((f.of_pages, (f.of_rest, f.of_sessions), f.of_tags), ((f.of_rest, f.of_sessions), f.of_ends)),
+)
 
-joined_facts : (start : ℕ) (s : State) (stamp : ℕ) (n : Note) → Facts start s → BringsNote n → stamp ≤ 2 ^ 63 - 1 → start ≤ stamp → Facts start (does.joins s stamp n)
-joined_facts start s stamp (note.Registered boot writer) f brings fits after = by (nat_eq boot s.boot)
+facts_of : (start : ℕ) (gs : List Group) (w : Work) → Known start gs w → LeaseFacts w.leases w.left → WorkFacts start gs w
+facts_of start gs w k leases = record {
+  of_rest = k.0.of_rest;
+  of_log = k.0.of_log;
+  of_clock = k.0.of_clock;
+  of_pages = k.1.0.0;
+  of_leases = leases;
+  of_sessions = k.1.0.1.1;
+  of_tags = k.1.0.2;
+  of_ends = k.1.1.1;
+}
+
+-- ---- what was logged
+
+nothing_since : (log : Log) → logged_since log log ≡ []
+nothing_since log = drop_all (last_seq log - log.gone) (groups_of log) (omega (arith, length_in log.groups))
+
+none_more : (start : ℕ) (gs : List Group) (s : State) → Facts start gs s → Facts start (gs ++ []) s
+none_more start gs s f = subst (λ (x : List Group). Facts start x s) (sym (append-nil gs)) f
+
+-- A state that stays as it is.
+unchanged : (start : ℕ) (gs : List Group) (s : State) (l : Life) → s.life ≡ Some l → Facts start gs s → Facts start (gs ++ logged_by (Some l) s.life) s
+unchanged start gs s l is f =
+    subst (λ (more : List Group). Facts start (gs ++ more) s) (sym (ap (λ (o : Option Life). logged_by (Some l) o) is ∙ nothing_since l.work.log)) (none_more start gs s f)
+
+-- A state after some more was logged.
+after : (start : ℕ) (gs : List Group) (old new : Work) → WorkFacts start gs old → new.log.gone ≤ last_seq old.log → LeaseFacts new.leases new.left → (more : List Group) × Known start (gs ++ more) new
+    → WorkFacts start (gs ++ logged_since old.log new.log) new
+after start gs old new f less leases (more, k) =
+    let same : logged_since old.log new.log ≡ more = logged_is gs more old.log new.log f.of_rest k.0.of_rest less in
+    subst (λ (x : List Group). WorkFacts start (gs ++ x) new) (sym same) (facts_of start (gs ++ more) new k leases)
+
+-- ---- a message
+
+joined_facts : (start : ℕ) (gs : List Group) (s : State) (stamp : ℕ) (n : Note) → s.life ≡ None → gs ≡ [] → BringsNote n → stamp ≤ 2 ^ 63 - 1 → start ≤ stamp → Facts start (gs ++ []) (does.joins s stamp n)
+joined_facts start gs s stamp n is none brings fits later = none_more start gs (does.joins s stamp n) (subst (λ (x : List Group). Facts start x (does.joins s stamp n)) (sym none) (of n brings))
   where
-    by : (b : Bool) → Facts start (does.joins_if s writer stamp b)
-    by true = facts_to start s (does.new_life (joined s.number s.stores writer stamp)) (front_joined start stamp writer brings fits after) (record { fresh = tt; images_had = tt; one_each = tt }) no_leases (no_sessions _) (record { had = all_none _; binds = all_none _ }) (no_ends _)
-    by false = f
-joined_facts start s stamp other f brings fits after = f
+    stays : LifeFacts start [] s.life
+    stays = subst (λ (o : Option Life). LifeFacts start [] o) (sym is) refl
 
-pub facts_step : (start : ℕ) (s : State) (m : Message) → Facts start s → Brings m → JoinsAfter start s.life m.stamp.0 → Facts start (step s m).0
-facts_step start s m f brings after = by s.life f after
+    of : (n : Note) → BringsNote n → Facts start [] (does.joins s stamp n)
+    of (note.Registered boot writer) brings = by (nat_eq boot s.boot)
+      where
+        by : (b : Bool) → Facts start [] (does.joins_if s writer stamp b)
+        by true =
+            let front = front_joined start stamp writer brings fits later in
+            record {
+              of_rest = front.of_rest;
+              of_log = front.of_log;
+              of_clock = front.of_clock;
+              of_pages = record { fresh = tt; images_had = tt; one_each = tt };
+              of_leases = no_leases;
+              of_sessions = no_sessions _;
+              of_tags = record { had = all_none _; binds = all_none _ };
+              of_ends = no_ends _;
+            }
+        by false = stays
+    of other brings = stays
+
+pub facts_step : (start : ℕ) (gs : List Group) (s : State) (m : Message) → Facts start gs s → Brings m → JoinsAfter start s.life m.stamp.0 → Facts start (gs ++ logged_by s.life (step s m).0.life) (step s m).0
+facts_step start gs s m f brings later = by s.life refl f later
   where
-    in_life : (l : Life) (b : Bool) → WorkFacts start l.work → Facts start (does.step_in s l m b).0
-    in_life l true h = f
-    in_life l false h =
+    in_life : (l : Life) (b : Bool) → s.life ≡ Some l → WorkFacts start gs l.work → Facts start (gs ++ logged_by (Some l) (does.step_in s l m b).0.life) (does.step_in s l m b).0
+    in_life l true is h = unchanged start gs s l is f
+    in_life l false is h =
         let heard : Life = does.heard l m.stamp.0 in
-        let known = note_moves tag_moves heard m.from m.stamp.0 m.note brings.0 (tag_moves.hears_stamp l.work m.stamp.0 brings.1 (known_of start l.work h)) in
-        facts_to start s (does.on_note heard m.from m.stamp.0 m.note).0
-        (note_moves (front_moves start) heard m.from m.stamp.0 m.note brings.0 ((front_moves start).hears_stamp l.work m.stamp.0 brings.1 (front_of start l.work h)))
-        known.0 (note_moves lease_moves heard m.from m.stamp.0 m.note brings.0 h.of_leases) known.1 known.2
-        (note_moves once_moves heard m.from m.stamp.0 m.note brings.0 (h.of_sessions, h.of_ends)).1
+        let new : Work = (does.on_note heard m.from m.stamp.0 m.note).0.work in
+        after start gs l.work new h (note_gone heard m.from m.stamp.0 m.note brings.0) (note_moves lease_moves heard m.from m.stamp.0 m.note brings.0 h.of_leases)
+        ((all_moves start).both l.work heard.work new ((all_moves start).hears_stamp l.work m.stamp.0 brings.1) (note_moves (all_moves start) heard m.from m.stamp.0 m.note brings.0) gs (known_of start gs l.work h))
 
-    by : (o : Option Life) → LifeFacts start o → JoinsAfter start o m.stamp.0 → Facts start (does.step_by s m o).0
-    by None h after = joined_facts start s m.stamp.0 m.note f brings.0 brings.1 after
-    by (Some l) h after = in_life l l.fenced h
+    by : (o : Option Life) → s.life ≡ o → LifeFacts start gs o → JoinsAfter start o m.stamp.0 → Facts start (gs ++ logged_by o (does.step_by s m o).0.life) (does.step_by s m o).0
+    by None is h later = joined_facts start gs s m.stamp.0 m.note is h brings.0 brings.1 later
+    by (Some l) is h later = in_life l l.fenced is h
 
-pub facts_command : (start : ℕ) (s : State) (session : ℕ) (asked : Command) → Facts start s → Facts start (on_command s session asked).0
-facts_command start s session asked f = by s.life f
+-- ---- a command
+
+pub facts_command : (start : ℕ) (gs : List Group) (s : State) (session : ℕ) (asked : Command) → Facts start gs s → Facts start (gs ++ logged_by s.life (on_command s session asked).0.life) (on_command s session asked).0
+facts_command start gs s session asked f = by s.life refl f
   where
-    in_life : (l : Life) (b : Bool) → WorkFacts start l.work → Facts start (does.command_in s l session asked b).0
-    in_life l true h = f
-    in_life l false h =
-        let known = command_moves tag_moves l session asked (known_of start l.work h) in
-        facts_to start s (does.commanded l session asked).life (command_moves (front_moves start) l session asked (front_of start l.work h)) known.0 (command_moves lease_moves l session asked h.of_leases) known.1 known.2
-        (command_moves once_moves l session asked (h.of_sessions, h.of_ends)).1
+    in_life : (l : Life) (b : Bool) → s.life ≡ Some l → WorkFacts start gs l.work → Facts start (gs ++ logged_by (Some l) (does.command_in s l session asked b).0.life) (does.command_in s l session asked b).0
+    in_life l true is h = unchanged start gs s l is f
+    in_life l false is h =
+        after start gs l.work (does.commanded l session asked).life.work h (command_gone l session asked) (command_moves lease_moves l session asked h.of_leases) (command_moves (all_moves start) l session asked gs (known_of start gs l.work h))
 
-    by : (o : Option Life) → LifeFacts start o → Facts start (does.command_by s session asked o).0
-    by None h = f
-    by (Some l) h = in_life l l.fenced h
+    by : (o : Option Life) → s.life ≡ o → LifeFacts start gs o → Facts start (gs ++ logged_by o (does.command_by s session asked o).0.life) (does.command_by s session asked o).0
+    by None is h = none_more start gs s f
+    by (Some l) is h = in_life l l.fenced is h
 
-has_vector : (start : ℕ) (o : Option Life) → LifeFacts start o → HasVector o
-has_vector start None f = tt
-has_vector start (Some l) f = f.of_clock.sound.heard_ascends
+-- ---- how it goes on
 
-pub message_goes : (start : ℕ) (s : State) (m : Message) → Facts start s → Brings m → Goes s (step s m).0
-message_goes start s m f brings = step_goes s m (has_vector start s.life f) brings
+has_vector : (start : ℕ) (gs : List Group) (o : Option Life) → LifeFacts start gs o → HasVector o
+has_vector start gs None f = tt
+has_vector start gs (Some l) f = f.of_clock.sound.heard_ascends
 
-pub asked_goes : (start : ℕ) (s : State) (session : ℕ) (asked : Command) → Facts start s → Goes s (on_command s session asked).0
-asked_goes start s session asked f = command_goes s session asked (has_vector start s.life f)
+pub message_goes : (start : ℕ) (gs : List Group) (s : State) (m : Message) → Facts start gs s → Brings m → Goes s (step s m).0
+message_goes start gs s m f brings = step_goes s m (has_vector start gs s.life f) brings
+
+pub asked_goes : (start : ℕ) (gs : List Group) (s : State) (session : ℕ) (asked : Command) → Facts start gs s → Goes s (on_command s session asked).0
+asked_goes start gs s session asked f = command_goes s session asked (has_vector start gs s.life f)

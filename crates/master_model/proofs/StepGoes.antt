@@ -88,6 +88,7 @@ rest_moves = record {
   hears_vector = λ w vector h. rest_same w _ refl refl refl refl refl;
   acks = λ w store seq h came. rest_same w _ refl refl refl refl refl;
   acks_more = λ w store seq h came. rest_same w _ refl refl refl refl refl;
+  let_go = λ w may. rest_same w _ refl refl refl refl refl;
   group = λ w records none room. rest_same w _ refl refl refl refl refl;
   change = λ w r stamp page is. rest_same w _ refl refl refl refl refl;
   grant = λ w page epoch stamp tags vector new brought fits granted. rest_same w _ refl refl refl refl refl;

@@ -225,11 +225,12 @@ module _ {G : Work → Cause → Type 0} {R : Work → Work → Type 0} (c : Clo
       by false is = c.acks w store seq is came
       by true is =
           let told : Work = without_ended (with_ack_of w store seq) (durable w) in
-          c.both w told _ (c.acks_more w store seq is came) (all_move back (leases.recalled_pages (with_ack_of w store seq)) told)
+          let gone : Work = (leases.releases_all (leases.recalled_pages (with_ack_of w store seq)) told).0 in
+          c.both w told _ (c.acks_more w store seq is came) (c.both told gone _ (all_move back (leases.recalled_pages (with_ack_of w store seq)) told) (c.let_go gone (back gone)))
   ack_moves back w other seq came = c.none w
 
   want_moves : (w : Work) (wanted : ℕ) → R w (acks.on_want w wanted).0
-  want_moves w wanted = by (nat_lt (last_stamp w.log.groups) wanted) (has_numbers w 1) (has_stamps w 1) refl refl
+  want_moves w wanted = by (nat_lt (last_stamp w.log) wanted) (has_numbers w 1) (has_stamps w 1) refl refl
     where
       by : (a b d : Bool) → has_numbers w 1 ≡ b → has_stamps w 1 ≡ d → R w (acks.beats w (a && b && d)).0
       by false b d is_b is_d = c.none w

@@ -13,6 +13,7 @@ use Rattle.tm_base.specs.declared.message.Note.TheVariants as note
 use Rattle.vs_clock.specs.State as clock
 use Rattle.log_writer.specs.declared.logged.Logged.{Logged}
 use Rattle.log_writer.specs.Log.{Log, durable_seq, resent, unacked}
+use Rattle.log_writer.proofs.LetGoLemmas.{same_durable}
 use Rattle.lease_desk.specs.declared.lease.Lease.{Lease}
 use Rattle.lease_desk.specs.declared.lease.Lease.TheVariants as lease
 use Rattle.lease_desk.specs.declared.lease.PageLease.{PageLease}
@@ -31,7 +32,7 @@ use Rattle.master_model.proofs.ToldLemmas.{both_told}
 -- ---- several pages are given back
 
 -- What stays when more pages are given back.
-record Keeps (old new : Work) : Type 0 where
+pub record Keeps (old new : Work) : Type 0 where
   pub number : new.number ≡ old.number
   pub of_clock : new.clock ≡ old.clock
   pub of_log : new.log ≡ old.log
@@ -49,7 +50,7 @@ keeps_both a b c h k = record {
 }
 
 -- The release of a page that is kept as it was told.
-record Kept (w : Work) (m : Message) : Type 0 where
+pub record Kept (w : Work) (m : Message) : Type 0 where
   pub page : ℕ
   pub body : Left
   pub is : m ≡ release w page body
@@ -92,7 +93,7 @@ ready_recalled : (a b : Bool) → a && b ≡ true → a ≡ true
 ready_recalled true b h = refl
 ready_recalled false b h = absurd (cc h)
 
-record Released (old new : Work) (ms : List Message) : Type 0 where
+pub record Released (old new : Work) (ms : List Message) : Type 0 where
   pub keeps : Keeps old new
   pub all : AllByRecursion (Kept new) ms
 
@@ -134,7 +135,7 @@ back_keeps w page ready = record { number = refl; of_clock = refl; of_log = refl
 left_here : (w : Work) (page : ℕ) (l : Left) → fin.get (fin.insert w.left page l) page ≡ Some l
 left_here w page l = grind (arith, nat_tests, gets)
 
-ready_released : (w : Work) (page : ℕ) → Released w (leases.releases_ready w page).0 (leases.releases_ready w page).1
+pub ready_released : (w : Work) (page : ℕ) → Released w (leases.releases_ready w page).0 (leases.releases_ready w page).1
 ready_released w page = by (is_ready (lease_of w.leases page) (settled w)) refl
   where
     by : (b : Bool) → is_ready (lease_of w.leases page) (settled w) ≡ b → Released w (leases.releases_if w page b).0 (leases.releases_if w page b).1
@@ -150,7 +151,7 @@ append_all : (w : Work) (xs ys : List Message) → AllByRecursion (Kept w) xs �
 append_all w [] ys h k = k
 append_all w (x ∷ xs) ys h k = (h.0, append_all w xs ys h.1 k)
 
-all_released : (ps : List ℕ) (w : Work) → Released w (leases.releases_all ps w).0 (leases.releases_all ps w).1
+pub all_released : (ps : List ℕ) (w : Work) → Released w (leases.releases_all ps w).0 (leases.releases_all ps w).1
 all_released [] w = record { keeps = keeps_all w; all = tt }
 all_released (p ∷ ps) w =
     let one : Effect = leases.releases_ready w p in
@@ -166,11 +167,20 @@ kept_all_told w ms h = all_on (Kept w) (MessageIs w) ms (kept_told w) h
 
 abbrev stable_by : ℕ → clock.State → Log → ℕ → Message
 stable_by number s log store =
-    record { from = Master number; to = LogStore store; stamp = record { 0 = s.scalar }; note = note.Stable log.writer (durable_seq log.groups) }
+    record { from = Master number; to = LogStore store; stamp = record { 0 = s.scalar }; note = note.Stable log.writer (durable_seq log) }
 
 stable_told : (a b : Work) (store : ℕ) → Keeps a b → IsLogStore (LogStore store) → MessageIs b (acks.stable a store)
 stable_told a b store k to =
     subst (MessageIs b) (λ i. stable_by (k.number i) (k.of_clock i) (k.of_log i) store) (record { sender = refl; stamp = refl; says = (to, refl, refl) })
+
+-- The log's durable groups go: what is told of it is so still.
+stable_gone : (a b : Work) (store : ℕ) → Keeps a b → IsLogStore (LogStore store) → MessageIs (acks.lets_go b) (acks.stable a store)
+stable_gone a b store k to =
+    let h = stable_told a b store k to in
+    record { sender = h.sender; stamp = h.stamp; says = (h.says.0, h.says.1, h.says.2 ∙ sym (same_durable b.log)) }
+
+kept_gone : (w : Work) (ms : List Message) → AllByRecursion (Kept w) ms → AllByRecursion (Kept (acks.lets_go w)) ms
+kept_gone w ms h = all_on (Kept w) (Kept (acks.lets_go w)) ms (λ m k. record { page = k.page; body = k.body; is = k.is; kept = k.kept; releasing = k.releasing }) h
 
 first_store : IsLogStore (LogStore 1)
 first_store = inl refl
@@ -184,10 +194,10 @@ third_store = inr (inr refl)
 pub more_told : (w : Work) (old : ℕ) (b : Bool) → MessagesAre (acks.on_more w old b).0 (acks.on_more w old b).1
 more_told w old false = tt
 more_told w old true =
-    let cut : Work = record w { tags = acks.without_all w.tags (acks.ends_between w.log.groups old (durable w)) } in
+    let cut : Work = record w { tags = acks.without_all w.tags (acks.ends_between w.log old (durable w)) } in
     let gone : Effect = leases.releases_all (leases.recalled_pages w) cut in
     let h = all_released (leases.recalled_pages w) cut in
-    (stable_told cut gone.0 1 h.keeps first_store, (stable_told cut gone.0 2 h.keeps second_store, (stable_told cut gone.0 3 h.keeps third_store, kept_all_told gone.0 gone.1 h.all)))
+    (stable_gone cut gone.0 1 h.keeps first_store, (stable_gone cut gone.0 2 h.keeps second_store, (stable_gone cut gone.0 3 h.keeps third_store, kept_all_told (acks.lets_go gone.0) gone.1 (kept_gone gone.0 gone.1 h.all))))
 
 pub ready_told : (w : Work) (page : ℕ) → MessagesAre (leases.releases_ready w page).0 (leases.releases_ready w page).1
 ready_told w page = kept_all_told (leases.releases_ready w page).0 (leases.releases_ready w page).1 (ready_released w page).all

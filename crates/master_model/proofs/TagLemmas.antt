@@ -16,7 +16,9 @@ use Rattle.tm_data.specs.Orders.{txn_cmp, txn_cmp-total}
 use Rattle.tm_base.specs.declared.message.Tag.{Tag}
 use Rattle.page_model.specs.Splits.{Halves, halves}
 use Rattle.log_writer.specs.declared.logged.Logged.{Logged}
-use Rattle.log_writer.specs.Log.{Log, acked, appended, durable_seq}
+use Rattle.log_writer.specs.Log.{Log, acked, appended, durable_seq, last_seq, let_go}
+use Rattle.log_writer.proofs.LetGoLemmas.{same_durable}
+use Rattle.log_writer.proofs.OrderLemmas.{durable_appended}
 use Rattle.lease_desk.specs.Desk as desk
 use Rattle.lease_desk.specs.Desk.{Leases, is_held, lease_of}
 use Rattle.master_model.specs.declared.session.Own.{Own}
@@ -31,23 +33,23 @@ use Rattle.master_model.specs.Writes.{last_page, parted, parted_by, tags_after}
 use Rattle.master_model.specs.Ends.{end_of}
 use Rattle.master_model.specs.Acks.{ends_between, ends_in, ends_of, without_all}
 use Rattle.master_model.specs.Leases.{binding, with_images}
-use Rattle.master_model.specs.Facts.{Fits, Has, PageFacts, SessionFacts, Sessions, TagFacts, groups_in, groups_of, own_txn}
+use Rattle.master_model.specs.Facts.{Fits, Has, IsRestOf, PageFacts, SessionFacts, Sessions, TagFacts, groups_in, own_txn, whole_of}
 use Rattle.master_model.proofs.GoesLemmas.{acked_is}
 use Rattle.master_model.proofs.LackLemmas.{all_taken}
-use Rattle.master_model.proofs.LoggedLemmas.{durable_appended, end_at}
-use Rattle.master_model.proofs.Moves.{Closed, with_ack_of, without_ended, begun_in}
+use Rattle.master_model.proofs.GrowMoves.{GrowsFor}
+use Rattle.master_model.proofs.LoggedLemmas.{isnt_durable}
+use Rattle.master_model.proofs.Moves.{AnyCause, with_ack_of, without_ended, begun_in}
 use Rattle.master_model.proofs.OpenLemmas.{OpenIn, open_in_is, open_is_in, open_unended, session_open, unended_open}
 use Rattle.master_model.proofs.PageLemmas.{has_changed, has_granted, has_others, has_recalled, has_released, held_had, page_moves}
+use Rattle.master_model.proofs.SessionLemmas as session_lemmas
 use Rattle.master_model.proofs.SessionLemmas.{gone_other, put_here, put_other, same_at, session_facts, some_is}
 use Rattle.master_model.proofs.StepMoves.{granted_held}
+use Rattle.master_model.proofs.WholeLemmas.{get_behind}
 use Rattle.master_model.proofs.TagSetLemmas.{AllTags, all_inserted, all_moved, all_with, eq_txn, left_passes}
 
 -- Of a master's pages, sessions and tags.
-abbrev pub Known : Work → Type 0
-Known w = PageFacts w.leases w.pool.images w.stock × SessionFacts w.log w.begun w.sessions × TagFacts w
-
-abbrev pub TagMoves : Work → Work → Type 0
-TagMoves a b = Known a → Known b
+abbrev pub Known : List Group → Work → Type 0
+Known gs w = PageFacts w.leases w.pool.images w.stock × session_lemmas.Known gs w × TagFacts w
 
 -- ---- what hasn't ended
 
@@ -82,8 +84,8 @@ unended_on a b t opens writer ended is = unended_by b t own other
 
 -- ---- the log
 
-same_durable : (w : Work) (log : Log) (t : Txn) → log.writer ≡ w.log.writer → durable_seq log.groups ≡ durable w → is_ended w t ≡ false → is_ended (record w { log = log }) t ≡ false
-same_durable w log t writer same is =
+same_durable_is : (w : Work) (log : Log) (t : Txn) → log.writer ≡ w.log.writer → durable_seq log ≡ durable w → is_ended w t ≡ false → is_ended (record w { log = log }) t ≡ false
+same_durable_is w log t writer same is =
     unended_on w (record w { log = log }) t (λ own from most open_in. subst (λ (d : ℕ). OpenIn w.sessions d t.number) (sym same) (open_in most)) writer refl is
 
 not_less : (a b : ℕ) → a ≤ b → nat_lt a b ≡ false → b ≡ a
@@ -127,14 +129,20 @@ same_itself t = by (nat_eq t.writer.0 t.writer.0) (nat_eq t.number t.number) (gr
     by false b h k = absurd (cc h)
 
 -- An own transaction that isn't among the ends that become durable stays open.
-acked_open : (log : Log) (groups : List Logged) (begun most number : ℕ) (sessions : Sessions) → groups_in groups ≡ groups_of log → SessionFacts log begun sessions
-    → AllByRecursion (λ (e : Txn × Bool). same_txn (own_txn log number) e.0 ≡ false) (ends_between groups (durable_seq log.groups) most) → OpenIn sessions (durable_seq log.groups) number → OpenIn sessions most number
-acked_open log groups begun most number sessions same f none o = record { session = o.session; own = o.own; there = o.there; same = o.same; goes_on = by o.own.progress o.goes_on (f.each o.session o.own o.there).fits }
+acked_open : (gs : List Group) (log new : Log) (begun most number : ℕ) (m : Sessions) → IsRestOf gs log → new.gone ≡ log.gone → groups_in new.groups ≡ groups_in log.groups → SessionFacts (whole_of gs log) begun m
+    → AllByRecursion (λ (e : Txn × Bool). same_txn (own_txn log.writer number) e.0 ≡ false) (ends_between new (durable_seq log) most) → OpenIn m (durable_seq log) number → OpenIn m most number
+acked_open gs log new begun most number m rest gone same f none o = record { session = o.session; own = o.own; there = o.there; same = o.same; goes_on = by o.own.progress o.goes_on (f.each o.session o.own o.there).fits }
   where
     old : ℕ
-    old = durable_seq log.groups
+    old = durable_seq log
 
-    by : (p : Progress) → is_over old p ≡ false → Fits log o.own.number p → is_over most p ≡ false
+    -- a group that isn't durable is still there
+    still : (seq : ℕ) (g : Group) → old < seq → slice_get gs (seq - 1) ≡ Some g → slice_get (groups_in new.groups) (seq - 1 - new.gone) ≡ Some g
+    still seq g above is =
+        let at : log.gone + (seq - 1 - new.gone) ≡ seq - 1 = omega (arith, above, gone) in
+        ap (λ (xs : List Group). slice_get xs (seq - 1 - new.gone)) (same ∙ rest.rest) ∙ get_behind gs log.gone (seq - 1 - new.gone) ∙ ap (λ (k : ℕ). slice_get gs k) at ∙ is
+
+    by : (p : Progress) → is_over old p ≡ false → Fits (whole_of gs log) o.own.number p → is_over most p ≡ false
     by Active goes fits = refl
     by (Undoing left) goes fits = refl
     by (Ended committed seq) goes fits = at (nat_le seq most) refl
@@ -144,35 +152,38 @@ acked_open log groups begun most number sessions same f none o = record { sessio
         at true is =
             let above : old < seq = grind (arith, nat_tests) in
             let below : seq ≤ most = grind (arith, nat_tests) in
-            let k : same_txn (own_txn log number) (own_txn log o.own.number) ≡ false =
-            between (λ (e : Txn × Bool). same_txn (own_txn log number) e.0 ≡ false) groups old (most - old) (seq - 1) fits.group (own_txn log o.own.number) committed
-            (ap (λ (gs : List Group). slice_get gs (seq - 1)) same ∙ fits.there) fits.says (omega (arith, above)) (omega (arith, above, below, fits.from_one)) none in
-            let yes : same_txn (own_txn log number) (own_txn log o.own.number) ≡ true = ap (λ (n : ℕ). same_txn (own_txn log number) (own_txn log n)) o.same ∙ same_itself (own_txn log number) in absurd (cc (k, yes))
+            let k : same_txn (own_txn log.writer number) (own_txn log.writer o.own.number) ≡ false =
+            between (λ (e : Txn × Bool). same_txn (own_txn log.writer number) e.0 ≡ false) new.groups (old - new.gone) (most - old) (seq - 1 - new.gone) fits.group (own_txn log.writer o.own.number) committed
+            (still seq fits.group above fits.there) fits.says (omega (arith, above, gone)) (omega (arith, above, below, gone, fits.from_one)) none in
+            let yes : same_txn (own_txn log.writer number) (own_txn log.writer o.own.number) ≡ true = ap (λ (n : ℕ). same_txn (own_txn log.writer number) (own_txn log.writer n)) o.same ∙ same_itself (own_txn log.writer number) in absurd (cc (k, yes))
 
 acked_tags : (w : Work) (store seq : ℕ) → nat_lt (durable w) (durable (with_ack_of w store seq)) ≡ false → TagFacts w → TagFacts (with_ack_of w store seq)
 acked_tags w store seq is f = record {
   had = f.had;
-  binds = λ t at. same_durable w (acked w.log store seq) t.txn refl (not_less (durable w) (durable (with_ack_of w store seq)) (acked_is w.log.groups store seq).durable is) (f.binds t at);
+  binds = λ t at. same_durable_is w (acked w.log store seq) t.txn refl (not_less (durable w) (durable (with_ack_of w store seq)) (acked_is w.log store seq).durable is) (f.binds t at);
 }
 
-own_is : (w : Work) (t : Txn) → is_own w t ≡ true → t ≡ own_txn w.log t.number
+gone_tags_stay : (w : Work) → TagFacts w → TagFacts (record w { log = let_go w.log })
+gone_tags_stay w f = record { had = f.had; binds = λ t at. same_durable_is w (let_go w.log) t.txn refl (same_durable w.log) (f.binds t at) }
+
+own_is : (w : Work) (t : Txn) → is_own w t ≡ true → t ≡ own_txn w.log.writer t.number
 own_is w t is = let one : t.writer.0 ≡ w.log.writer.0 = grind (arith, nat_tests) in ap (λ (n : ℕ). record { writer = record { 0 = n }; number = t.number }) one
 
-more_tags : (w : Work) (store seq : ℕ) → SessionFacts w.log w.begun w.sessions → TagFacts w → TagFacts (without_ended (with_ack_of w store seq) (durable w))
-more_tags w store seq sessions f = record { had = λ t at. f.had t (left t at).0; binds = λ t at. binds t (left t at) }
+more_tags : (gs : List Group) (w : Work) (store seq : ℕ) → session_lemmas.Known gs w → TagFacts w → TagFacts (without_ended (with_ack_of w store seq) (durable w))
+more_tags gs w store seq known f = record { had = λ t at. f.had t (left t at).0; binds = λ t at. binds t (left t at) }
   where
     new : Work
     new = with_ack_of w store seq
 
     ends : List (Txn × Bool)
-    ends = ends_between new.log.groups (durable w) (durable new)
+    ends = ends_between new.log (durable w) (durable new)
 
     left : (t : PageTag) → fin.contains_key (without_all w.tags ends) t ≡ true → (fin.contains_key w.tags t ≡ true) × AllByRecursion (λ (e : Txn × Bool). same_txn t.txn e.0 ≡ false) ends
     left t at = without_passes w.tags ends t at
 
     binds : (t : PageTag) → (fin.contains_key w.tags t ≡ true) × AllByRecursion (λ (e : Txn × Bool). same_txn t.txn e.0 ≡ false) ends → is_ended (without_ended new (durable w)) t.txn ≡ false
     binds t two = unended_on w (without_ended new (durable w)) t.txn (λ own from most open_in.
-        acked_open w.log new.log.groups w.begun (durable new) t.txn.number w.sessions (acked_is w.log.groups store seq).same sessions
+        acked_open gs w.log new.log w.begun (durable new) t.txn.number w.sessions known.0 refl (acked_is w.log store seq).same known.1
         (subst (λ (x : Txn). AllByRecursion (λ (e : Txn × Bool). same_txn x e.0 ≡ false) ends) (own_is w t.txn own) two.1) (open_in most)) refl refl (f.binds t two.0)
 
 -- ---- pages
@@ -341,77 +352,76 @@ after_stand w leaf path fresh had h = by (halves leaf.body)
 
 -- ---- all of it
 
-pub tag_moves : Closed TagMoves
+pub tag_moves : GrowsFor AnyCause Known
 tag_moves = record {
-  none = λ w h. h;
-  both = λ a b c h k x. k (h x);
-  hears_stamp = λ w stamp is h. (h.0, h.1, record { had = h.2.had; binds = h.2.binds });
-  hears_vector = λ w vector is h. (h.0, h.1, record { had = h.2.had; binds = h.2.binds });
-  acks = λ w store seq is came h. (h.0, session_facts.acks w store seq is tt h.1, acked_tags w store seq is h.2);
-  acks_more = λ w store seq is came h. (h.0, session_facts.acks_more w store seq is tt h.1, more_tags w store seq h.1 h.2);
-  group = λ w records none room h. (
+  hears_stamp = λ w stamp is gs h. (h.0, h.1, record { had = h.2.had; binds = h.2.binds });
+  hears_vector = λ w vector is gs h. (h.0, h.1, record { had = h.2.had; binds = h.2.binds });
+  acks = λ w store seq is came gs h. (h.0, session_facts.acks w store seq is tt gs h.1, acked_tags w store seq is h.2);
+  acks_more = λ w store seq is came gs h. (h.0, session_facts.acks_more w store seq is tt gs h.1, more_tags gs w store seq h.1 h.2);
+  let_go = λ w may gs h. (h.0, session_facts.let_go w (λ page. tt) gs h.1, let f = gone_tags_stay w h.2 in record { had = f.had; binds = f.binds });
+  group = λ w records none room gs h. (
     h.0,
-    session_facts.group w records none room h.1,
-    record { had = h.2.had; binds = λ t at. same_durable w (appended w.log _) t.txn refl (durable_appended w.log _) (h.2.binds t at) },
+    session_facts.group w records none room gs h.1,
+    record { had = h.2.had; binds = λ t at. same_durable_is w (appended w.log _) t.txn refl (durable_appended w.log _) (h.2.binds t at) },
   );
-  change = λ w r stamp page is h. (page_moves.change w r stamp page is h.0, h.1, record { had = λ t at. has_changed w.leases page (record { 0 = stamp }) t.page (h.2.had t at); binds = h.2.binds });
-  grant = λ w page epoch stamp tags vector new brought fits granted h. (
+  change = λ w r stamp page is gs h. (page_moves.change w r stamp page is h.0, h.1, record { had = λ t at. has_changed w.leases page (record { 0 = stamp }) t.page (h.2.had t at); binds = h.2.binds });
+  grant = λ w page epoch stamp tags vector new brought fits granted gs h. (
     page_moves.grant w page epoch stamp tags vector new brought fits granted h.0,
     h.1,
     let all = granted_tags w page.0 epoch stamp tags new h.2 in record { had = λ t at. (all t at).0; binds = λ t at. (all t at).1 },
   );
-  image = λ w image held same h. (page_moves.image w image held same h.0, session_facts.image w image held same h.1, image_tags w _ h.2);
-  fresh_page = λ w page is came h. (
+  image = λ w image held same gs h. (page_moves.image w image held same h.0, session_facts.image w image held same gs h.1, image_tags w _ h.2);
+  fresh_page = λ w page is came gs h. (
     page_moves.fresh_page w page is tt h.0,
     h.1,
     record { had = λ t at. has_granted w.leases page.0 1 (record { 0 = 0 }) t.page (h.2.had t at); binds = h.2.binds },
   );
-  fresh_none = λ w h. (h.0, h.1, record { had = h.2.had; binds = h.2.binds });
-  recall = λ w page epoch came h. (
+  fresh_none = λ w gs h. (h.0, h.1, record { had = h.2.had; binds = h.2.binds });
+  recall = λ w page epoch came gs h. (
     page_moves.recall w page epoch tt h.0,
     h.1,
     record { had = λ t at. has_recalled w.leases page epoch t.page (h.2.had t at); binds = h.2.binds },
   );
-  give_back = λ w page is came h. (
+  give_back = λ w page is came gs h. (
     page_moves.give_back w page is tt h.0,
     h.1,
     let all = gone_tags w page h.2 in record { had = λ t at. (all t at).0; binds = λ t at. (all t at).1 },
   );
-  release = λ w page epoch is h. (
+  release = λ w page epoch is gs h. (
     page_moves.release w page epoch is h.0,
     h.1,
     record { had = λ t at. has_released w.leases page epoch t.page (h.2.had t at); binds = h.2.binds },
   );
-  path = λ w path h. (page_moves.path w path h.0, h.1, record { had = h.2.had; binds = h.2.binds });
-  end = λ w t is h. (h.0, h.1, end_tags w t is h.2);
-  mark = λ w t is known h. (h.0, h.1, record { had = h.2.had; binds = h.2.binds });
-  name = λ w t h. (h.0, h.1, record { had = h.2.had; binds = h.2.binds });
-  begin = λ w session is h. (h.0, session_facts.begin w session is h.1, begun_tags w session is h.2);
-  tag = λ w session page key own is active held h. (
+  path = λ w path gs h. (page_moves.path w path h.0, h.1, record { had = h.2.had; binds = h.2.binds });
+  end = λ w t is gs h. (h.0, h.1, end_tags w t is h.2);
+  mark = λ w t is known gs h. (h.0, h.1, record { had = h.2.had; binds = h.2.binds });
+  name = λ w t gs h. (h.0, h.1, record { had = h.2.had; binds = h.2.binds });
+  begin = λ w session is gs h. (h.0, session_facts.begin w session is gs h.1, begun_tags w session is h.2);
+  tag = λ w session page key own is active held gs h. (
     h.0,
     h.1,
     to_facts w _ (all_inserted (Stands w) w.tags (page_tag page key (txn_numbered w own.number)) (stand_all w h.2) (read_tags w session page key own is active held)),
   );
-  put = λ w p leaf path fresh count is some h. (
+  put = λ w p leaf path fresh count is some gs h. (
     page_moves.put w p leaf path fresh count is some h.0,
-    session_facts.put w p leaf path fresh count is some h.1,
+    session_facts.put w p leaf path fresh count is some gs h.1,
     let had = subst (λ (ps : List Page). AllByRecursion (λ (q : Page). Has w.leases q.0) ps) (sym some) (all_taken (λ (q : Page). Has w.leases q.0) count w.stock h.0.fresh) in
         let moved_on = to_facts w (tags_after w.tags leaf path fresh) (after_stand w leaf path fresh had (stand_all w h.2)) in
         let last = session_tags (record w { tags = tags_after w.tags leaf path fresh }) p.session p.own _ is refl (λ k. k) moved_on in record { had = last.had; binds = last.binds },
   );
-  session = λ w session own left is going h. (h.0, session_facts.session w session own left is going h.1, session_tags w session own _ is refl (λ k. refl) h.2);
-  ends = λ w session own committed is going room h. (
+  session = λ w session own left is going gs h. (h.0, session_facts.session w session own left is going gs h.1, session_tags w session own _ is refl (λ k. refl) h.2);
+  ends = λ w session own committed is going room gs h. (
     h.0,
-    session_facts.ends w session own committed is going room h.1,
-    let g : Group = next_group w (end_of (own_txn w.log own.number) committed) in
-        let late = (end_at w.log g (own_txn w.log own.number) committed refl).1 in
-        let logged : TagFacts (record w { log = appended w.log g }) = record { had = h.2.had; binds = λ t at. same_durable w (appended w.log g) t.txn refl (durable_appended w.log g) (h.2.binds t at) } in
-        let last = session_tags (record w { log = appended w.log g }) session own _ is refl (λ k. isnt_over (durable_seq (appended w.log g).groups) (length w.log.groups + 1) committed late) logged in
+    session_facts.ends w session own committed is going room gs h.1,
+    let g : Group = next_group w (end_of (own_txn w.log.writer own.number) committed) in
+        let late = isnt_durable w.log g in
+        let logged : TagFacts (record w { log = appended w.log g }) = record { had = h.2.had; binds = λ t at. same_durable_is w (appended w.log g) t.txn refl (durable_appended w.log g) (h.2.binds t at) } in
+        let last = session_tags (record w { log = appended w.log g }) session own _ is refl (λ k. isnt_over (durable_seq (appended w.log g)) (last_seq w.log + 1) committed late) logged in
         record { had = last.had; binds = last.binds },
   );
-  free = λ w session own committed seq is at durable h. (
+  free = λ w session own committed seq is at durable gs h. (
     h.0,
-    session_facts.free w session own committed seq is at durable h.1,
+    session_facts.free w session own committed seq is at durable gs h.1,
     free_tags w session own is (ended_over _ seq committed own.progress at durable) h.2,
   );
 }

@@ -1,8 +1,9 @@
 -- What a command sends says what is so.
-use Rattle.std.proofs.Common.{◌≡◌, ◌+◌, ◌-◌, ℕ, Bool, true, false, List, [], ◌∷◌, ◌++◌, Option, Some, None, refl, sym, subst, cond, arith, inl, inr}
+use Rattle.std.proofs.Common.{◌≡◌, ◌+◌, ◌-◌, ℕ, Bool, true, false, List, [], ◌∷◌, ◌++◌, Option, Some, None, refl, ap, sym, subst, ◌∙◌, cond, arith, inl, inr, append_assoc}
 use Rattle.std.specs.Prelude.{nat_eq, ◌||◌, length}
 use Rattle.std.specs.List.{AllByRecursion, Contains}
 use Rattle.std.specs.FinSet as sets
+use Rattle.std.proofs.lemmas.List.{append-nil}
 use Rattle.std.proofs.lemmas.List.Elements.{Contains-append_left, Contains-push}
 use Rattle.tm_data.specs.declared.log.Group.{Group}
 use Rattle.tm_data.specs.declared.log.Record.{Record}
@@ -15,8 +16,7 @@ use Rattle.tm_base.specs.declared.message.RosterEntry.{RosterEntry}
 use Rattle.tm_base.specs.declared.reply.Reply.{Reply}
 use Rattle.tm_base.specs.declared.reply.Reply.TheVariants as reply
 use Rattle.vs_clock.specs.State.{told, ticked}
-use Rattle.log_writer.specs.Acks.{no_acks}
-use Rattle.log_writer.specs.Log.{Log, appended}
+use Rattle.log_writer.specs.Log.{Log, appended, unacknowledged}
 use Rattle.lease_desk.specs.declared.lease.Lease.{Lease}
 use Rattle.lease_desk.specs.declared.lease.Lease.TheVariants as lease
 use Rattle.lease_desk.specs.Desk.{lease_of}
@@ -34,11 +34,10 @@ use Rattle.master_model.specs.Recovery.{LifeAnswer, WrittenRow}
 use Rattle.master_model.specs.Step as does
 use Rattle.master_model.specs.Step.{on_command}
 use Rattle.master_model.specs.Facts.{groups_of}
-use Rattle.master_model.specs.Goes.{LogGoes}
 use Rattle.master_model.specs.Told.{MessagesAre, Sent, SentBy}
 use Rattle.master_model.proofs.LoggedLemmas.{changes_front}
 use Rattle.master_model.proofs.Moves.{HasRoom, room_left}
-use Rattle.master_model.proofs.GoesLemmas.{groups_pushed, log_appended, log_both, log_stays}
+use Rattle.master_model.proofs.GoesLemmas.{groups_pushed}
 use Rattle.master_model.proofs.Answers.{Answered, begin_says, get_says, put_says, commit_says, abort_says, undo_says}
 
 -- Groups of a log.
@@ -65,15 +64,21 @@ foreign_asked false false told is = refl
 
 -- ---- groups
 
-in_longer : (a b : Log) (g : Group) → LogGoes a b → Contains (groups_of a) g → Contains (groups_of b) g
-in_longer a b g goes h = subst (λ (gs : List Group). Contains gs g) (sym goes.groups.1) (Contains-append_left (groups_of a) goes.groups.0 g h)
+-- What is logged goes behind the groups of the log.
+abbrev Longer : Log → Log → Type 0
+Longer a b = (more : List Group) × (groups_of b ≡ groups_of a ++ more)
 
-logs_go : (w : Work) (groups : List (List Record)) → LogGoes w.log (logs w groups).work.log
-logs_go w [] = log_stays w.log
-logs_go w (r ∷ rs) =
+in_longer : (a b : Log) (g : Group) → Longer a b → Contains (groups_of a) g → Contains (groups_of b) g
+in_longer a b g longer h = subst (λ (gs : List Group). Contains gs g) (sym longer.1) (Contains-append_left (groups_of a) longer.0 g h)
+
+logs_longer : (w : Work) (groups : List (List Record)) → Longer w.log (logs w groups).work.log
+logs_longer w [] = ([], sym (append-nil (groups_of w.log)))
+logs_longer w (r ∷ rs) =
     let g : Group = next_group w r in
     let same : (with_group w g).log ≡ appended w.log g = (changes_front (record w { clock = told (ticked w.clock); log = appended w.log g }) g.records g.stamp.0).0 in
-    log_both w.log (with_group w g).log (logs (with_group w g) rs).work.log (subst (LogGoes w.log) (sym same) (log_appended w.log g)) (logs_go (with_group w g) rs)
+    let first : groups_of (with_group w g).log ≡ groups_of w.log ++ g ∷ [] = ap groups_of same ∙ groups_pushed w.log.groups (unacknowledged g) in
+    let rest = logs_longer (with_group w g) rs in
+    (g ∷ rest.0, rest.1 ∙ (ap (λ (gs : List Group). gs ++ rest.0) first ∙ append_assoc (groups_of w.log) (g ∷ []) rest.0))
 
 pub logged_in : (w : Work) (groups : List (List Record)) → HasRoom w (length groups) → AreIn (logs w groups).work (logs w groups).groups
 logged_in w [] room = tt
@@ -83,8 +88,8 @@ logged_in w (r ∷ rs) room =
     let more : HasRoom w (length rs + 1) = record { numbers = omega (arith, room.numbers); stamps = omega (arith, room.stamps) } in
     let rest : HasRoom next (length rs) = room_left w g (length rs) more in
     let same : next.log ≡ appended w.log g = (changes_front (record w { clock = told (ticked w.clock); log = appended w.log g }) g.records g.stamp.0).0 in
-    let last : Contains (groups_of (appended w.log g)) g = subst (λ (gs : List Group). Contains gs g) (sym (groups_pushed w.log.groups (record { group = g; acks = no_acks }))) (Contains-push (groups_of w.log) g) in
-    (in_longer next.log (logs next rs).work.log g (logs_go next rs) (subst (λ (l : Log). Contains (groups_of l) g) (sym same) last), logged_in next rs rest)
+    let last : Contains (groups_of (appended w.log g)) g = subst (λ (gs : List Group). Contains gs g) (sym (groups_pushed w.log.groups (unacknowledged g))) (Contains-push (groups_of w.log) g) in
+    (in_longer next.log (logs next rs).work.log g (logs_longer next rs) (subst (λ (l : Log). Contains (groups_of l) g) (sym same) last), logged_in next rs rest)
 
 pub told_answers : (session : ℕ) → Answered session (λ w a. Tells a)
 told_answers session = record {

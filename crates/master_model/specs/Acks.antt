@@ -11,7 +11,7 @@ use Rattle.tm_base.specs.declared.message.Node.{Node}
 use Rattle.tm_base.specs.declared.message.Node.TheVariants.{LogStore}
 use Rattle.tm_base.specs.declared.message.Note.TheVariants as note
 use Rattle.log_writer.specs.declared.logged.Logged.{Logged}
-use Rattle.log_writer.specs.Log.{acked, last_stamp, resent}
+use Rattle.log_writer.specs.Log.{Log, acked, last_stamp, let_go, resent}
 use Rattle.lock_table.specs.Tags.{Tags, without_txn}
 use Rattle.master_model.specs.State.{Work, Effect, ignored, durable, message, to_locks}
 use Rattle.master_model.specs.Leases.{again, recalled_pages, releases_all, releasing_pages}
@@ -46,21 +46,27 @@ abbrev pub ends_of : List Logged → List (Txn × Bool)
 ends_of [] = []
 ends_of (l ∷ ls) = ends_in l.group.records ++ ends_of ls
 
--- The ends that become durable when the log is durable up to another number.
-abbrev pub ends_between : List Logged → ℕ → ℕ → List (Txn × Bool)
-ends_between groups old new = ends_of (take (new - old) (drop old groups))
+-- The ends in the groups of a log after one number up to another: those that become durable when it is durable up to
+-- that. The log has let none of these groups go yet.
+abbrev pub ends_between : Log → ℕ → ℕ → List (Txn × Bool)
+ends_between log old new = ends_of (take (new - old) (drop (old - log.gone) log.groups))
 
 -- The tags of transactions that have ended go.
 abbrev pub without_all : Tags → List (Txn × Bool) → Tags
 without_all tags [] = tags
 without_all tags (e ∷ es) = without_all (without_txn tags e.0) es
 
--- Where more is durable, the stores are told, ended transactions lose their tags, and the recalled pages go that may.
+-- What the log has no more use for goes.
+abbrev pub lets_go : Work → Work
+lets_go w = record w { log = let_go w.log }
+
+-- Where more is durable, the stores are told, ended transactions lose their tags, the recalled pages go that may, and the
+-- log lets its durable groups go.
 abbrev pub on_more : Work → ℕ → Bool → Effect
 on_more w old false = ignored w
 on_more w old true =
-    let (new, messages) = releases_all (recalled_pages w) (record w { tags = without_all w.tags (ends_between w.log.groups old (durable w)) }) in
-    (new, to_stores (stable w) ++ messages)
+    let (new, messages) = releases_all (recalled_pages w) (record w { tags = without_all w.tags (ends_between w.log old (durable w)) }) in
+    (lets_go new, to_stores (stable w) ++ messages)
 
 abbrev pub on_acked : Work → ℕ → Effect
 on_acked w old = on_more w old (nat_lt old (durable w))
@@ -77,7 +83,7 @@ beats w false = ignored w
 beats w true = let g = next_group w (Beat ∷ []) in (with_group w g, appends (with_group w g) (g ∷ []))
 
 abbrev pub on_want : Work → ℕ → Effect
-on_want w wanted = beats w (nat_lt (last_stamp w.log.groups) wanted && has_numbers w 1 && has_stamps w 1)
+on_want w wanted = beats w (nat_lt (last_stamp w.log) wanted && has_numbers w 1 && has_stamps w 1)
 
 -- ---- a tick
 

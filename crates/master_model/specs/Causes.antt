@@ -23,7 +23,7 @@ use Rattle.master_model.specs.Step.{new_life}
 -- Whether it is noted in the own log that a log store has acknowledged the group of a number.
 abbrev pub is_noted : Option Life → ℕ → ℕ → Bool
 is_noted None seq store = false
-is_noted (Some l) seq store = is_marked l.work.log.groups seq store
+is_noted (Some l) seq store = is_marked l.work.log seq store
 
 -- A message is a log store's acknowledgement of the writer's group of a number.
 pub record Acknowledges (m : Message) (writer : Writer) (seq store : ℕ) : Type 0 where

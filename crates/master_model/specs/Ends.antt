@@ -15,7 +15,7 @@ use Rattle.tm_data.specs.declared.row_map.RowKey.{RowKey}
 use Rattle.tm_data.specs.declared.transaction.Txn.{Txn}
 use Rattle.tm_base.specs.declared.reply.Reply.{Reply}
 use Rattle.tm_base.specs.declared.reply.Reply.TheVariants as reply
-use Rattle.log_writer.specs.Log.{lacking}
+use Rattle.log_writer.specs.Log.{lacking, last_seq}
 use Rattle.lock_table.specs.Tags.{same_txn}
 use Rattle.master_model.specs.declared.session.Own.{Own}
 use Rattle.master_model.specs.declared.session.Progress.{Progress}
@@ -39,11 +39,11 @@ awaited_next seq (Some store) = Some (store, seq)
 -- What is awaited of the command's own group, or, where every store has that, of the first that isn't durable.
 abbrev pub awaited_own : Work → ℕ → Option ℕ → Awaited
 awaited_own w seq (Some store) = Some (store, seq)
-awaited_own w seq None = awaited_next (durable w + 1) (lacking w.log.groups (durable w + 1))
+awaited_own w seq None = awaited_next (durable w + 1) (lacking w.log (durable w + 1))
 
 abbrev pub awaited_if : Work → ℕ → Bool → Awaited
 awaited_if w seq true = None
-awaited_if w seq false = awaited_own w seq (lacking w.log.groups seq)
+awaited_if w seq false = awaited_own w seq (lacking w.log seq)
 
 -- What a command waits for until the group of a number is durable; none once it is.
 abbrev pub awaited : Work → ℕ → Awaited
@@ -61,7 +61,7 @@ end_of t committed = End t committed ∷ []
 -- The session waits for the end's group, which is the last one.
 abbrev pub ended : Work → ℕ → Own → Bool → List Group → Answer
 ended w session own committed groups =
-    let seq = length w.log.groups in
+    let seq = last_seq w.log in
     let new = with_session w session (record own { progress = Ended committed seq }) in
     record { work = new; reply = waits reply.Done (awaited new seq); groups = groups; messages = [] }
 

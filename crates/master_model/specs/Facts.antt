@@ -1,5 +1,7 @@
--- What holds of a master in every state: of its log, its clock, its pages, its leases, its sessions and its tags.
-use Rattle.std.specs.Prelude.{◌≡◌, ◌<◌, ◌≤◌, ◌⊎◌, ℕ, ◌+◌, ◌-◌, ◌^◌, Bool, true, false, List, [], ◌∷◌, ◌++◌, map, length, max, is_some, slice_get}
+-- What holds of a master in every state: of its log, its clock, its pages, its leases, its sessions and its tags. Where
+-- it speaks of all groups that the master ever logged, these are named by whoever states it: the log itself lets its
+-- durable groups go.
+use Rattle.std.specs.Prelude.{◌≡◌, ◌<◌, ◌≤◌, ◌⊎◌, ℕ, ◌+◌, ◌-◌, ◌^◌, Bool, true, false, List, [], ◌∷◌, ◌++◌, cond, drop, map, length, max, nat_eq, is_some, slice_get}
 use Rattle.std.specs.List.{AllByRecursion}
 use Rattle.std.specs.Ordering.{nat_cmp}
 use Rattle.std.specs.FinMap.{FinMap}
@@ -21,7 +23,7 @@ use Rattle.vs_clock.specs.State as clock
 use Rattle.log_writer.specs.declared.logged.Logged.{Logged}
 use Rattle.page_model.specs.Pool.{OneEach}
 use Rattle.log_writer.specs.Acks.{has}
-use Rattle.log_writer.specs.Log.{Log, durable_seq, numbered}
+use Rattle.log_writer.specs.Log.{Log, durable_seq, last_seq, numbered}
 use Rattle.lease_desk.specs.declared.lease.Lease.{Lease}
 use Rattle.lease_desk.specs.declared.lease.Lease.TheVariants as lease
 use Rattle.lease_desk.specs.declared.lease.PageLease.{PageLease}
@@ -34,6 +36,7 @@ use Rattle.lock_table.specs.Tags.{PageTag, same_txn}
 use Rattle.master_model.specs.Fates.{is_ended, is_own}
 use Rattle.master_model.specs.Ends.{end_of}
 use Rattle.master_model.specs.Acks.{ends_in}
+use Rattle.master_model.specs.Logging.{logged_since}
 use Rattle.master_model.specs.State.{Work, Life, State, settled}
 
 -- ---- what a message brings
@@ -65,8 +68,33 @@ Brings m = BringsNote m.note × (m.stamp.0 ≤ 2 ^ 63 - 1)
 abbrev pub groups_in : List Logged → List Group
 groups_in groups = map (λ l. l.group) groups
 
+-- The groups that a log still has.
 abbrev pub groups_of : Log → List Group
 groups_of log = groups_in log.groups
+
+-- What a writer ever logged, also the groups that its log has let go, and how many of them are durable.
+pub record Whole : Type 0 where
+  pub writer : Writer
+  pub groups : List Group
+  pub durable : ℕ
+
+-- A log that is what is left of some groups.
+abbrev pub whole_of : List Group → Log → Whole
+whole_of groups log = record { writer = log.writer; groups = groups; durable = durable_seq log }
+
+-- The stamp of the group of a number, 0 where there is none.
+abbrev pub stamp_in : Option Group → ℕ
+stamp_in None = 0
+stamp_in (Some g) = g.stamp.0
+
+abbrev pub stamp_numbered : List Group → ℕ → ℕ
+stamp_numbered groups seq = cond (nat_eq seq 0) 0 (stamp_in (slice_get groups (seq - 1)))
+
+-- A log is what is left of a writer's groups: it has those behind the ones that it let go, and the last one's stamp of these.
+pub record IsRestOf (groups : List Group) (log : Log) : Type 0 where
+  pub gone : log.gone ≤ length groups
+  pub stamp : log.gone_stamp ≡ stamp_numbered groups log.gone
+  pub rest : groups_of log ≡ drop log.gone groups
 
 -- What was told in some groups of a writer: the greatest stamp of it.
 abbrev pub told_in : List Group → ℕ → ℕ
@@ -81,30 +109,31 @@ AreGroups writer seq after last (g ∷ gs) =
     (g.writer.0 ≡ writer) × (g.seq ≡ seq) × (after < g.stamp.0) × IsVector g.learnt × (stamp_of g.learnt writer ≡ 0) × (greatest g.learnt < g.stamp.0)
     × AreGroups writer (seq + 1) g.stamp.0 last gs
 
--- The groups of a log that began at a stamp, and whose writer's clock has come to this scalar: they are the writer's,
+-- The groups of a writer that began at a stamp, and whose clock has come to this scalar: they are the writer's,
 -- numbered from 1 without gaps, and their stamps rise above the start, up to the scalar.
-pub record LogFacts (start : ℕ) (log : Log) (scalar : ℕ) : Type 0 where
-  pub groups : AreGroups log.writer.0 1 start scalar (groups_of log)
-  pub most : length log.groups < 2 ^ 32
+pub record LogFacts (start : ℕ) (whole : Whole) (scalar : ℕ) : Type 0 where
+  pub groups : AreGroups whole.writer.0 1 start scalar whole.groups
+  pub most : length whole.groups < 2 ^ 32
 
--- A group that is the log's at its number, and that a log store hasn't acknowledged.
-pub record Lacks (groups : List Logged) (store : ℕ) (g : Group) : Type 0 where
+-- A group is the writer's of its number, its log has it still, and a log store hasn't acknowledged it.
+pub record Lacks (groups : List Group) (log : Log) (store : ℕ) (g : Group) : Type 0 where
   pub logged : Logged
   pub from_one : 1 ≤ g.seq
-  pub most : g.seq ≤ length groups
-  pub there : numbered groups g.seq ≡ Some logged
+  pub most : g.seq ≤ last_seq log
+  pub whole : slice_get groups (g.seq - 1) ≡ Some g
+  pub there : numbered log g.seq ≡ Some logged
   pub group : logged.group ≡ g
   pub lacked : has logged.acks store ≡ false
 
 -- ---- the clock
 
-pub record ClockFacts (log : Log) (s : clock.State) : Type 0 where
-  -- it is the log's writer's
-  pub writer : s.writer ≡ log.writer.0
+pub record ClockFacts (whole : Whole) (s : clock.State) : Type 0 where
+  -- it is the writer's
+  pub writer : s.writer ≡ whole.writer.0
   -- what is heard has no own entry; the scalar is at least at every stamp that was heard
   pub sound : clock.IsSound s
-  -- what was told in the log's groups, with what is still to be told, is what was heard
-  pub told : (w : ℕ) → stamp_of s.heard w ≡ max (told_in (groups_of log) w) (stamp_of s.untold w)
+  -- what was told in the writer's groups, with what is still to be told, is what was heard
+  pub told : (w : ℕ) → stamp_of s.heard w ≡ max (told_in whole.groups w) (stamp_of s.untold w)
 
 -- ---- pages
 
@@ -153,8 +182,8 @@ abbrev pub Sessions : Type 0
 Sessions = FinMap nat_cmp Own
 
 -- An own transaction.
-abbrev pub own_txn : Log → ℕ → Txn
-own_txn log number = record { writer = log.writer; number = number }
+abbrev pub own_txn : Writer → ℕ → Txn
+own_txn writer number = record { writer = writer; number = number }
 
 -- The group of a number is a transaction's end with an outcome, and says nothing else.
 pub record HasEndAt (groups : List Group) (seq : ℕ) (t : Txn) (committed : Bool) : Type 0 where
@@ -163,11 +192,11 @@ pub record HasEndAt (groups : List Group) (seq : ℕ) (t : Txn) (committed : Boo
   pub there : slice_get groups (seq - 1) ≡ Some group
   pub says : group.records ≡ end_of t committed
 
--- A transaction that has ended has its end in the log, with its outcome, at the number that is kept of it.
-abbrev pub Fits : Log → ℕ → Progress → Type 0
-Fits log number Active = Unit {0}
-Fits log number (Undoing left) = Unit {0}
-Fits log number (Ended committed seq) = HasEndAt (groups_of log) seq (own_txn log number) committed
+-- A transaction that has ended has its end among the writer's groups, with its outcome, at the number that is kept of it.
+abbrev pub Fits : Whole → ℕ → Progress → Type 0
+Fits whole number Active = Unit {0}
+Fits whole number (Undoing left) = Unit {0}
+Fits whole number (Ended committed seq) = HasEndAt whole.groups seq (own_txn whole.writer number) committed
 
 abbrev pub is_at_end : Progress → Bool
 is_at_end Active = false
@@ -175,20 +204,20 @@ is_at_end (Undoing left) = false
 is_at_end (Ended committed seq) = true
 
 -- The number of a session's transaction is one that was begun.
-pub record SessionFact (log : Log) (begun : ℕ) (own : Own) : Type 0 where
+pub record SessionFact (whole : Whole) (begun : ℕ) (own : Own) : Type 0 where
   pub from_one : 1 ≤ own.number
   pub most : own.number ≤ begun
-  pub fits : Fits log own.number own.progress
+  pub fits : Fits whole own.number own.progress
 
--- A transaction's end with an outcome is in the log, and durable.
-pub record DurableEnd (log : Log) (t : Txn) (committed : Bool) : Type 0 where
+-- A transaction's end with an outcome was logged, and is durable.
+pub record DurableEnd (whole : Whole) (t : Txn) (committed : Bool) : Type 0 where
   pub seq : ℕ
-  pub at : HasEndAt (groups_of log) seq t committed
-  pub is_durable : seq ≤ durable_seq log.groups
+  pub at : HasEndAt whole.groups seq t committed
+  pub is_durable : seq ≤ whole.durable
 
 -- That of an own transaction is, with one outcome or the other.
-abbrev pub EndIsDurable : Log → ℕ → Type 0
-EndIsDurable log number = (committed : Bool) × DurableEnd log (own_txn log number) committed
+abbrev pub EndIsDurable : Whole → ℕ → Type 0
+EndIsDurable whole number = (committed : Bool) × DurableEnd whole (own_txn whole.writer number) committed
 
 pub record InSession (sessions : Sessions) (number : ℕ) : Type 0 where
   pub session : ℕ
@@ -196,12 +225,12 @@ pub record InSession (sessions : Sessions) (number : ℕ) : Type 0 where
   pub there : fin.get sessions session ≡ Some own
   pub same : own.number ≡ number
 
-pub record SessionFacts (log : Log) (begun : ℕ) (sessions : Sessions) : Type 0 where
-  pub each : (session : ℕ) (own : Own) → fin.get sessions session ≡ Some own → SessionFact log begun own
+pub record SessionFacts (whole : Whole) (begun : ℕ) (sessions : Sessions) : Type 0 where
+  pub each : (session : ℕ) (own : Own) → fin.get sessions session ≡ Some own → SessionFact whole begun own
   -- no two sessions have one transaction
   pub apart : (a b : ℕ) (x y : Own) → fin.get sessions a ≡ Some x → fin.get sessions b ≡ Some y → x.number ≡ y.number → a ≡ b
   -- a transaction that was begun is a session's, or its end is durable
-  pub known : (number : ℕ) → 1 ≤ number → number ≤ begun → InSession sessions number ⊎ EndIsDurable log number
+  pub known : (number : ℕ) → 1 ≤ number → number ≤ begun → InSession sessions number ⊎ EndIsDurable whole number
 
 -- ---- ends
 
@@ -225,7 +254,7 @@ pub record IsOf (writer : Writer) (begun : ℕ) (t : Txn) : Type 0 where
   pub from_one : 1 ≤ t.number
   pub most : t.number ≤ begun
 
--- The ends in a writer's log are of its own transactions, one of each at most, and of none that still reads, writes or
+-- The ends that a writer logged are of its own transactions, one of each at most, and of none that still reads, writes or
 -- undoes its rows.
 pub record EndFacts (ends : List (Txn × Bool)) (writer : Writer) (begun : ℕ) (sessions : Sessions) : Type 0 where
   pub own : AllByRecursion (λ (e : Txn × Bool). IsOf writer begun e.0) ends
@@ -241,22 +270,29 @@ pub record TagFacts (w : Work) : Type 0 where
 
 -- ---- a master
 
-pub record WorkFacts (start : ℕ) (w : Work) : Type 0 where
-  pub of_log : LogFacts start w.log w.clock.scalar
-  pub of_clock : ClockFacts w.log w.clock
+-- Of a writer that began at a stamp and has logged these groups.
+pub record WorkFacts (start : ℕ) (groups : List Group) (w : Work) : Type 0 where
+  pub of_rest : IsRestOf groups w.log
+  pub of_log : LogFacts start (whole_of groups w.log) w.clock.scalar
+  pub of_clock : ClockFacts (whole_of groups w.log) w.clock
   pub of_pages : PageFacts w.leases w.pool.images w.stock
   pub of_leases : LeaseFacts w.leases w.left
-  pub of_sessions : SessionFacts w.log w.begun w.sessions
+  pub of_sessions : SessionFacts (whole_of groups w.log) w.begun w.sessions
   pub of_tags : TagFacts w
-  pub of_ends : EndFacts (all_ends (groups_of w.log)) w.log.writer w.begun w.sessions
+  pub of_ends : EndFacts (all_ends groups) w.log.writer w.begun w.sessions
 
--- Of a master that has joined, with a writer that began at a stamp.
-abbrev pub LifeFacts : ℕ → Option Life → Type 0
-LifeFacts start None = Unit {0}
-LifeFacts start (Some l) = WorkFacts start l.work
+-- Of a master, with a writer that began at a stamp: one that hasn't joined has logged nothing.
+abbrev pub LifeFacts : ℕ → List Group → Option Life → Type 0
+LifeFacts start groups None = groups ≡ []
+LifeFacts start groups (Some l) = WorkFacts start groups l.work
 
-abbrev pub Facts : ℕ → State → Type 0
-Facts start s = LifeFacts start s.life
+abbrev pub Facts : ℕ → List Group → State → Type 0
+Facts start groups s = LifeFacts start groups s.life
+
+-- What was logged from one state on up to another.
+abbrev pub logged_by : Option Life → Option Life → List Group
+logged_by (Some old) (Some new) = logged_since old.work.log new.work.log
+logged_by old new = []
 
 -- A master joins no earlier than its writer began.
 abbrev pub JoinsAfter : ℕ → Option Life → ℕ → Type 0
@@ -301,3 +337,13 @@ PagesRest w = (page : ℕ) → Rests (lease_of w.leases page) (settled w) w.cloc
 abbrev pub LifeRests : Option Life → Type 0
 LifeRests None = Unit {0}
 LifeRests (Some l) = PagesRest l.work
+
+-- ---- the log's length
+
+-- A log has no durable group: all of them were let go.
+abbrev pub HasNoneDurable : Log → Type 0
+HasNoneDurable log = log.gone ≡ durable_seq log
+
+abbrev pub LifeHasNoneDurable : Option Life → Type 0
+LifeHasNoneDurable None = Unit {0}
+LifeHasNoneDurable (Some l) = HasNoneDurable l.work.log

@@ -1,5 +1,5 @@
 -- How a master's state goes on.
-use Rattle.std.specs.Prelude.{◌≡◌, ◌≤◌, ℕ, List, ◌++◌, true}
+use Rattle.std.specs.Prelude.{◌≡◌, ◌≤◌, ℕ, ◌+◌, ◌-◌, List, ◌++◌, drop, length, true}
 use Rattle.std.specs.Ordering.{nat_cmp}
 use Rattle.std.specs.FinMap.{FinMap}
 use Rattle.std.specs.FinMap as fin
@@ -13,7 +13,7 @@ use Rattle.tm_data.specs.declared.transaction.Writer.{Writer}
 use Rattle.tm_data.specs.Orders.{txn_cmp}
 use Rattle.tm_data.specs.Vectors.{stamp_of}
 use Rattle.vs_clock.specs.State as clock
-use Rattle.log_writer.specs.Log.{Log, durable_seq, is_marked}
+use Rattle.log_writer.specs.Log.{Log, durable_seq, is_marked, last_seq}
 use Rattle.lease_desk.specs.declared.lease.Lease.{Lease}
 use Rattle.lease_desk.specs.declared.lease.Lease.TheVariants as lease
 use Rattle.lease_desk.specs.declared.lease.PageLease.{PageLease}
@@ -24,12 +24,13 @@ use Rattle.master_model.specs.Facts.{groups_of}
 
 -- ---- a writer
 
--- Its log grows at the end, and loses no acknowledgement.
+-- Its log grows at the end, keeps its groups but for those that it lets go from the front, and loses no acknowledgement.
 pub record LogGoes (old new : Log) : Type 0 where
   pub writer : new.writer ≡ old.writer
-  pub groups : (more : List Group) × (groups_of new ≡ groups_of old ++ more)
-  pub marks : (seq store : ℕ) → is_marked old.groups seq store ≡ true → is_marked new.groups seq store ≡ true
-  pub durable : durable_seq old.groups ≤ durable_seq new.groups
+  pub gone : old.gone ≤ new.gone
+  pub groups : (more : List Group) × (last_seq new ≡ last_seq old + length more) × (groups_of new ≡ drop (new.gone - old.gone) (groups_of old ++ more))
+  pub marks : (seq store : ℕ) → is_marked old seq store ≡ true → is_marked new seq store ≡ true
+  pub durable : durable_seq old ≤ durable_seq new
 
 -- Its clock is the same writer's, and what it heard of each writer never falls.
 pub record ClockGoes (old new : clock.State) : Type 0 where

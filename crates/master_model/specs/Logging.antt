@@ -1,5 +1,5 @@
 -- What a master changes when it logs groups of records.
-use Rattle.std.specs.Prelude.{ℕ, ◌+◌, ◌-◌, ◌^◌, Bool, true, false, nat_lt, nat_le, List, [], ◌∷◌, length}
+use Rattle.std.specs.Prelude.{ℕ, ◌+◌, ◌-◌, ◌^◌, Bool, true, false, nat_lt, nat_le, List, [], ◌∷◌, drop, map}
 use Rattle.std.specs.declared.option.Option.{Option}
 use Rattle.std.specs.declared.option.Option.TheVariants.{None, Some}
 use Rattle.tm_data.specs.declared.image.Image.{Image}
@@ -9,7 +9,7 @@ use Rattle.tm_base.specs.declared.reply.Reply.TheVariants as reply
 use Rattle.page_model.specs.Effects.{redone_at, page_of}
 use Rattle.page_model.specs.Pool.{image_of, replaced}
 use Rattle.vs_clock.specs.State.{ticked, told}
-use Rattle.log_writer.specs.Log.{appended}
+use Rattle.log_writer.specs.Log.{Log, appended, last_seq}
 use Rattle.lease_desk.specs.Desk.{changed}
 use Rattle.master_model.specs.State.{Work, Answer, says}
 
@@ -17,7 +17,7 @@ use Rattle.master_model.specs.State.{Work, Answer, says}
 
 -- So many further groups have numbers below 2^32 - 1.
 abbrev pub has_numbers : Work → ℕ → Bool
-has_numbers w count = nat_lt (length w.log.groups + count) (2 ^ 32 - 1)
+has_numbers w count = nat_lt (last_seq w.log + count) (2 ^ 32 - 1)
 
 -- And stamps up to 2^63 - 1, each one above the scalar before it.
 abbrev pub has_stamps : Work → ℕ → Bool
@@ -59,7 +59,7 @@ with_changes w (r ∷ rs) stamp = with_changes (with_change w r stamp (page_of r
 abbrev pub next_group : Work → List Record → Group
 next_group w records = record {
   writer = w.log.writer;
-  seq = length w.log.groups + 1;
+  seq = last_seq w.log + 1;
   stamp = record { 0 = w.clock.scalar + 1 };
   learnt = w.clock.untold;
   records = records;
@@ -82,3 +82,9 @@ in_front g l = record l { groups = g ∷ l.groups }
 abbrev pub logs : Work → List (List Record) → Logged
 logs w [] = record { work = w; groups = [] }
 logs w (r ∷ rs) = in_front (next_group w r) (logs (with_group w (next_group w r)) rs)
+
+-- ---- what was logged
+
+-- The groups that a log has behind the last number which it had before.
+abbrev pub logged_since : Log → Log → List Group
+logged_since old new = drop (last_seq old - new.gone) (map (λ l. l.group) new.groups)

@@ -31,6 +31,7 @@ use Rattle.tm_base.specs.declared.reply.RecoveryWait.TheVariants as wait
 use Rattle.tm_base.specs.declared.reply.Reply.{Reply}
 use Rattle.tm_base.specs.declared.reply.Reply.TheVariants as reply
 use Rattle.page_model.specs.Effects.{page_of}
+use Rattle.log_writer.specs.Log.{last_seq}
 use Rattle.lock_table.specs.Tags.{same_txn}
 use Rattle.master_model.specs.declared.recovery.Stage.{Stage}
 use Rattle.master_model.specs.declared.recovery.Stage.TheVariants.{Seal, Close, Scan, Take, Undo, Told, Over}
@@ -262,7 +263,7 @@ finishes l r groups (Some (store, seq)) = record { life = l; reply = reply.Again
 -- A row was undone, in a group or because none was needed; or it wasn't, as the reply says.
 abbrev pub undo_seq_after : ℕ → Work → List Group → ℕ
 undo_seq_after seq w [] = seq
-undo_seq_after seq w (g ∷ gs) = length w.log.groups
+undo_seq_after seq w (g ∷ gs) = last_seq w.log
 
 abbrev pub undone_one : Life → Recovery → ℕ → List Group → LifeAnswer
 undone_one l r left groups =

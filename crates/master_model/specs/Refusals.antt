@@ -78,7 +78,7 @@ Because session w after sent (reply.AgainFate t) = IsUnknown w t × (sent ≡ to
 Because session w after sent (reply.AgainPage page) = sent ≡ asks_for w page (lease_of w.leases page.0).state
 Because session w after sent (reply.AgainFresh wanting) =
     PlanIs w (Wanting wanting) × (w.spent ≡ false) × (sent ≡ to_locks w (note.RequestFresh w.log.writer (w.fresh + 1)) ∷ [])
-Because session w after sent (reply.AgainStore store seq) = lacking after.log.groups seq ≡ Some store
+Because session w after sent (reply.AgainStore store seq) = lacking after.log seq ≡ Some store
 Because session w after sent (reply.AgainRows left) = 1 ≤ left
 Because session w after sent reply.NotJoined = ⊥
 Because session w after sent reply.Fenced = ⊥
@@ -117,7 +117,7 @@ RecoverSaid l new writer (reply.Recovered named) = (named ≡ writer) × IsKnown
 RecoverSaid l new writer (reply.OtherRecovery named) = (r : Recovery) × (l.recovery ≡ Some r) × (named ≡ writer_named r.writer) × (nat_eq r.writer writer.0 ≡ false)
 RecoverSaid l new writer (reply.Recovering what) = WaitsFor new writer what
 RecoverSaid l new writer (reply.AgainRows left) = (1 ≤ left) × IsAt new writer.0 (Undo left)
-RecoverSaid l new writer (reply.AgainStore store seq) = lacking new.work.log.groups seq ≡ Some store
+RecoverSaid l new writer (reply.AgainStore store seq) = lacking new.work.log seq ≡ Some store
 RecoverSaid l new writer other = Unit {0}
 
 abbrev pub RecoverIsSaid : Option Life → Option Life → Writer → Reply → Type 0

@@ -15,7 +15,8 @@ use Rattle.tm_base.specs.declared.message.Message.{Message}
 use Rattle.tm_base.specs.declared.message.Node.TheVariants.{LockManager}
 use Rattle.tm_base.specs.declared.reply.Reply.{Reply}
 use Rattle.tm_base.specs.declared.reply.Reply.TheVariants as reply
-use Rattle.log_writer.specs.Log.{Log}
+use Rattle.log_writer.specs.Log.{last_seq}
+use Rattle.tm_data.specs.declared.log.Group.{Group}
 use Rattle.tm_base.specs.declared.message.Tag.{Tag}
 use Rattle.page_model.specs.Splits.{images_on, is_full, full_pages, page_above}
 use Rattle.page_model.specs.Tree.{level_of, path_of}
@@ -27,7 +28,7 @@ use Rattle.master_model.specs.Fates.{is_ended}
 use Rattle.master_model.specs.Paths.{here, last_of, row_at}
 use Rattle.master_model.specs.Reads.{txn_numbered}
 use Rattle.master_model.specs.Writes.{first_missing, fresh_needed, row_put}
-use Rattle.master_model.specs.Facts.{DurableEnd}
+use Rattle.master_model.specs.Facts.{DurableEnd, Whole, whole_of}
 
 -- ---- what a get reads
 
@@ -88,17 +89,17 @@ SaysEndIn None session (reply.Committed t) = ⊥
 SaysEndIn None session (reply.Aborted t) = ⊥
 SaysEndIn None session other = Unit {0}
 
--- The end that is answered is in the log, and durable.
-abbrev pub SaysDurable : Log → Reply → Type 0
-SaysDurable log (reply.Committed t) = DurableEnd log t true
-SaysDurable log (reply.Aborted t) = DurableEnd log t false
-SaysDurable log other = Unit {0}
+-- The end that is answered was logged, and is durable.
+abbrev pub SaysDurable : Whole → Reply → Type 0
+SaysDurable whole (reply.Committed t) = DurableEnd whole t true
+SaysDurable whole (reply.Aborted t) = DurableEnd whole t false
+SaysDurable whole other = Unit {0}
 
-abbrev pub SaysDurableIn : Option Life → Reply → Type 0
-SaysDurableIn (Some l) said = SaysDurable l.work.log said
-SaysDurableIn None (reply.Committed t) = ⊥
-SaysDurableIn None (reply.Aborted t) = ⊥
-SaysDurableIn None other = Unit {0}
+abbrev pub SaysDurableIn : List Group → Option Life → Reply → Type 0
+SaysDurableIn groups (Some l) said = SaysDurable (whole_of groups l.work.log) said
+SaysDurableIn groups None (reply.Committed t) = ⊥
+SaysDurableIn groups None (reply.Aborted t) = ⊥
+SaysDurableIn groups None other = Unit {0}
 
 -- ---- when a get and a put are done
 
@@ -156,7 +157,7 @@ pub record RowFits (w : Work) (own : Txn) (row : Row) (leaf : Image) (path : Lis
   pub foreign : is_full row leaf.body ≡ true → TagsAreFree w (foreign_on w.tags leaf.page.0 (writer_of w))
   pub splits : SplitsFit w.stock (page_above row (upward_of w path)) (reverse (full_pages row (upward_of w path)))
   pub blank : first_missing (here w) (take (fresh_needed w path row) w.stock) ≡ None
-  pub numbers : length w.log.groups + length (full_pages row (upward_of w path)) + 1 < 2 ^ 32 - 1
+  pub numbers : last_seq w.log + length (full_pages row (upward_of w path)) + 1 < 2 ^ 32 - 1
   pub stamps : w.clock.scalar + length (full_pages row (upward_of w path)) + 1 ≤ 2 ^ 63 - 1
 
 -- A value has at most 512 bytes, if there is one.

@@ -20,7 +20,7 @@ use Rattle.tm_base.specs.declared.reply.Reply.{Reply}
 use Rattle.page_model.specs.Pool.{Pool, pool}
 use Rattle.vs_clock.specs.State as clock
 use Rattle.vs_clock.specs.State.{sending}
-use Rattle.log_writer.specs.Log.{Log, durable_seq, durable_stamp, settled as settled_at}
+use Rattle.log_writer.specs.Log.{Log, durable_seq, durable_stamp, new_log, settled as settled_at}
 use Rattle.lease_desk.specs.Desk.{Leases}
 use Rattle.lock_table.specs.Tags.{Tags, no_tags}
 use Rattle.master_model.specs.declared.left.Left.{Left}
@@ -36,7 +36,7 @@ pub record Work : Type 0 where
   pub stores : ℕ
   -- the scalar, and what is known of other writers
   pub clock : clock.State
-  -- its groups, with the log stores that acknowledged each
+  -- its groups, with the log stores that acknowledged each; those that are durable are let go
   pub log : Log
   -- by page: the lease, and what was told of a page that is being given back
   pub leases : Leases
@@ -69,7 +69,7 @@ joined number stores writer start = record {
   number = number;
   stores = stores;
   clock = clock.started writer.0 start;
-  log = record { writer = writer; groups = [] };
+  log = new_log writer;
   leases = fin.empty;
   left = fin.empty;
   pool = pool [] places;
@@ -135,16 +135,16 @@ store_of w page = PageStore (1 + page % w.stores)
 
 -- The number of the last durable group.
 abbrev pub durable : Work → ℕ
-durable w = durable_seq w.log.groups
+durable w = durable_seq w.log
 
 -- The vector for sending. Its own entry is the stamp of the last durable group.
 abbrev pub vector_of : Work → List VectorEntry
-vector_of w = sending w.clock (durable_stamp w.log.groups)
+vector_of w = sending w.clock (durable_stamp w.log)
 
 -- The stamp up to which all is durable that is known here: one less than the stamp of the first own group that
 -- isn't, and the scalar where all are.
 abbrev pub settled : Work → ℕ
-settled w = settled_at w.log.groups w.clock.scalar
+settled w = settled_at w.log w.clock.scalar
 
 -- ---- what comes of a command and of a message
 

@@ -15,7 +15,7 @@ use Rattle.lease_desk.specs.Desk.{is_releasing, lease_of}
 use Rattle.master_model.specs.declared.left.Left.{Left}
 use Rattle.master_model.specs.State.{Work, Life, State, durable, store_of, vector_of}
 use Rattle.master_model.specs.Fates.{has_ended, is_own}
-use Rattle.master_model.specs.Facts.{EndIsDurable, groups_of}
+use Rattle.master_model.specs.Facts.{EndIsDurable, groups_of, whole_of}
 use Rattle.master_model.specs.Goes.{rank}
 
 -- One of the three.
@@ -85,45 +85,45 @@ pub record ReleaseFact (w : Work) (page epoch : ℕ) (body : Left) : Type 0 wher
   pub given_back : (lease_of w.leases page).epoch ≡ epoch → 2 ≤ rank (lease_of w.leases page).state
   pub kept : (lease_of w.leases page).epoch ≡ epoch → is_releasing (lease_of w.leases page).state ≡ true → fin.get w.left page ≡ Some body
 
--- A group stands in a log at its number.
+-- A group stands among a writer's groups at its number.
 pub record IsLogged (groups : List Group) (g : Group) : Type 0 where
   pub from_one : 1 ≤ g.seq
   pub there : slice_get groups (g.seq - 1) ≡ Some g
 
--- What a writer's message says that stays so, by its kind.
-abbrev pub NoteFact : Work → Note → Type 0
-NoteFact w (note.Append g) = (g.writer ≡ w.log.writer) × IsLogged (groups_of w.log) g
-NoteFact w (note.Stable writer seq) = (writer ≡ w.log.writer) × (seq ≤ durable w)
-NoteFact w (note.Request writer page) = writer ≡ w.log.writer
-NoteFact w (note.RequestFresh writer nth) = (writer ≡ w.log.writer) × (1 ≤ nth) × (nth ≤ w.fresh + 1)
-NoteFact w (note.Release writer page epoch stamp tags vector) =
+-- What a writer's message says that stays so, by its kind, where it has logged these groups.
+abbrev pub NoteFact : List Group → Work → Note → Type 0
+NoteFact groups w (note.Append g) = (g.writer ≡ w.log.writer) × IsLogged groups g
+NoteFact groups w (note.Stable writer seq) = (writer ≡ w.log.writer) × (seq ≤ durable w)
+NoteFact groups w (note.Request writer page) = writer ≡ w.log.writer
+NoteFact groups w (note.RequestFresh writer nth) = (writer ≡ w.log.writer) × (1 ≤ nth) × (nth ≤ w.fresh + 1)
+NoteFact groups w (note.Release writer page epoch stamp tags vector) =
     (writer ≡ w.log.writer) × ReleaseFact w page.0 epoch (record { epoch = epoch; stamp = stamp; tags = tags; vector = vector })
-NoteFact w (note.ReadPage page) = Unit {0}
-NoteFact w (note.Ask txn master) = (master ≡ w.number) × (is_own w txn ≡ false)
+NoteFact groups w (note.ReadPage page) = Unit {0}
+NoteFact groups w (note.Ask txn master) = (master ≡ w.number) × (is_own w txn ≡ false)
 -- a transaction that was told to have ended has a durable end
-NoteFact w (note.Fate txn ended vector) = (is_own w txn ≡ true) × (ended ≡ true → EndIsDurable w.log txn.number)
+NoteFact groups w (note.Fate txn ended vector) = (is_own w txn ≡ true) × (ended ≡ true → EndIsDurable (whole_of groups w.log) txn.number)
 -- a recovery's messages speak of another writer
-NoteFact w (note.Seal writer) = Unit {0}
-NoteFact w (note.Close writer groups store) = Unit {0}
-NoteFact w (note.Fetch writer next) = Unit {0}
-NoteFact w (note.Takeover writer part rest listed vector) = Unit {0}
-NoteFact w (note.Undone writer recoverer vector) = recoverer ≡ w.log.writer
-NoteFact w (note.Want writer) = writer ≡ None
+NoteFact groups w (note.Seal writer) = Unit {0}
+NoteFact groups w (note.Close writer length store) = Unit {0}
+NoteFact groups w (note.Fetch writer next) = Unit {0}
+NoteFact groups w (note.Takeover writer part rest listed vector) = Unit {0}
+NoteFact groups w (note.Undone writer recoverer vector) = recoverer ≡ w.log.writer
+NoteFact groups w (note.Want writer) = writer ≡ None
 -- and no other is sent
-NoteFact w other = ⊥
+NoteFact groups w other = ⊥
 
-abbrev pub LifeSaid : Option Life → Note → Type 0
-LifeSaid None n = ⊥
-LifeSaid (Some l) n = NoteFact l.work n
+abbrev pub LifeSaid : List Group → Option Life → Note → Type 0
+LifeSaid groups None n = ⊥
+LifeSaid groups (Some l) n = NoteFact groups l.work n
 
 -- A Register has the boot number, also once the master has joined.
-abbrev pub SaidBy : State → Note → Type 0
-SaidBy s (note.Register boot) = boot ≡ s.boot
-SaidBy s other = LifeSaid s.life other
+abbrev pub SaidBy : List Group → State → Note → Type 0
+SaidBy groups s (note.Register boot) = boot ≡ s.boot
+SaidBy groups s other = LifeSaid groups s.life other
 
-pub record MessageFact (s : State) (m : Message) : Type 0 where
+pub record MessageFact (groups : List Group) (s : State) (m : Message) : Type 0 where
   pub sender : m.from ≡ Master s.number
-  pub said : SaidBy s m.note
+  pub said : SaidBy groups s m.note
 
 -- The writer's master is this one, and knows as many page stores.
 abbrev pub LifeIsNamed : ℕ → ℕ → Option Life → Type 0

@@ -3,12 +3,14 @@
 //! `step` is what it does with a message, `on_command` with a command; a tick changes nothing. A law is the
 //! contract of a function that does nothing: a caller that calls it has the law among its facts. The laws speak of
 //! one step: what holds before it and after it (`Facts`), and how the state goes on (`Goes`). `begun` is the stamp
-//! at which the master's writer began, as the lock manager has it. What a message brings (`Brings`) is what each
-//! message has that the format of messages can spell.
-ghost use Rattle.std.specs.Prelude.{◌≡◌, ◌⊎◌, ℕ, Bool, true, List, [], Option, None, Some};
+//! at which the master's writer began, as the lock manager has it. `groups` is all that the writer has logged so far: its
+//! log lets its durable groups go, and is what is left of these. What a message brings (`Brings`) is what each message
+//! has that the format of messages can spell.
+ghost use Rattle.std.specs.Prelude.{◌≡◌, ◌⊎◌, ◌++◌, ℕ, Bool, true, List, [], Option, None, Some};
 ghost use Rattle.std.specs.List.{AllByRecursion};
 ghost use Rattle.std.specs.FinMap as fin;
 ghost use Rattle.log_writer.specs.Log.{resent, unacked};
+ghost use Rattle.tm_data.specs.declared.log.Group.{Group};
 ghost use Rattle.tm_base.specs.declared.command.Command.{Command};
 ghost use Rattle.tm_base.specs.declared.command.Command.TheVariants as command;
 ghost use Rattle.tm_base.specs.declared.message.Message.{Message};
@@ -20,7 +22,7 @@ ghost use Rattle.lock_table.specs.Tags.{PageTag};
 ghost use Rattle.master_model.specs.Reads.{get};
 ghost use Rattle.master_model.specs.Replies.{MayGetIn, MayPutIn, PathIsHere, QuietOrAsking, Reads, SaysDurableIn, SaysEndIn};
 ghost use Rattle.master_model.specs.Step.{on_command, start, step, tick};
-ghost use Rattle.master_model.specs.Facts.{Brings, DurableEnd, EndIsDurable, Facts, GrantIsBegun, JoinsAfter, Lacks, LifeRests, OwnTags, TagsAreBegun, WorkFacts, own_txn};
+ghost use Rattle.master_model.specs.Facts.{Brings, DurableEnd, EndIsDurable, Facts, GrantIsBegun, JoinsAfter, Lacks, LifeHasNoneDurable, LifeRests, OwnTags, TagsAreBegun, WorkFacts, logged_by, own_txn, whole_of};
 ghost use Rattle.master_model.specs.Goes.{Goes};
 ghost use Rattle.master_model.specs.Told.{IsNamed, MessageFact, Sent};
 ghost use Rattle.master_model.specs.Causes.{AcknowledgesOwn, EpochCame, Joins, LeftSent, WriterStays, epoch_in, is_noted, left_in, roster_in};
@@ -29,27 +31,27 @@ ghost use Rattle.master_model.specs.Refusals.{BecauseIn, IsInSession, RecoverIsS
 ghost use Rattle.tm_data.specs.declared.transaction.Writer.{Writer};
 ghost use Rattle.master_model.specs.Stages.{ReadAreHeard, RecoveryGoes, RecoveryIsAsked, StagesAreSaid};
 
-/// What holds in every state holds at the start, where nothing is known yet. It speaks of the start alone: refused is
-/// a fact that wants a master to have joined.
+/// What holds in every state holds at the start, where nothing is known yet and nothing was logged. It speaks of the
+/// start alone: refused is a fact that wants a master to have joined.
 pub fn facts_hold_at_the_start()
-    ensures { (begun number boot stores : ℕ) → Facts begun (start number boot stores).0 }
+    ensures { (begun number boot stores : ℕ) → Facts begun [] (start number boot stores).0 }
 {}
 
-/// It holds after each message: the log's groups are the writer's, numbered 1, 2, .. without gaps, their stamps rise
-/// above the writer's start and none is above the scalar; each tells a vector without the own entry, below its own
-/// stamp; what was told in all groups, with what is still to be told, is all that was heard; the scalar is at least
-/// at every stamp that was heard. Each fresh page and each image is of a page that is held or recalled, and no page
+/// It holds after each message, of the writer's groups and of the one that the message has it log: the groups are the
+/// writer's, numbered 1, 2, .. without gaps, their stamps rise above the writer's start and none is above the scalar; the
+/// log is what is left of them; each tells a vector without the own entry, below its own stamp; what was told in all
+/// groups, with what is still to be told, is all that was heard; the scalar is at least at every stamp that was heard. Each fresh page and each image is of a page that is held or recalled, and no page
 /// has two images; of exactly the pages that are being given back there is what was told, with the epoch and the
 /// stamp of the lease. Each session's transaction was begun, no two sessions have one, and one that has ended has its
-/// end in the log, with its outcome, at the number that is kept of it; a transaction that was begun is a session's,
-/// or its end is durable; the ends in the log are of own transactions that were begun, one of each at most, and of
+/// end among the groups, with its outcome, at the number that is kept of it; a transaction that was begun is a session's,
+/// or its end is durable; the ends in the groups are of own transactions that were begun, one of each at most, and of
 /// none that still reads, writes or undoes its rows. Each shared lock stands on a page that is held or recalled, and
 /// is of a transaction that isn't known to have ended. Refused are a Beat that has the scalar itself as its stamp, a
-/// vector that is heard with its own entry, a page that is given back and keeps its image, its locks or its place
+/// vector that is heard with its own entry, an acknowledgement at which the log lets one group too many go, a page that is given back and keeps its image, its locks or its place
 /// among the fresh ones, a grant that takes the locks of ended transactions, and an acknowledgement that leaves those
 /// of the ends that become durable.
 pub fn a_message_keeps_the_facts()
-    ensures { (begun : ℕ) (s : State) (m : Message) → Facts begun s → Brings m → JoinsAfter begun s.life m.stamp.0 → Facts begun (step s m).0 }
+    ensures { (begun : ℕ) (groups : List Group) (s : State) (m : Message) → Facts begun groups s → Brings m → JoinsAfter begun s.life m.stamp.0 → Facts begun (groups ++ logged_by s.life (step s m).0.life) (step s m).0 }
 {}
 
 /// And after each command. Refused is a command whose second group has the number or the stamp of its first, one that
@@ -57,7 +59,7 @@ pub fn a_message_keeps_the_facts()
 /// row's group as that of its end, a begin that gives out a number once more, a commit that logs its end again when
 /// it is asked again, and a split that leaves a lock on a page that isn't here.
 pub fn a_command_keeps_the_facts()
-    ensures { (begun : ℕ) (s : State) (session : ℕ) (asked : Command) → Facts begun s → Facts begun (on_command s session asked).0 }
+    ensures { (begun : ℕ) (groups : List Group) (s : State) (session : ℕ) (asked : Command) → Facts begun groups s → Facts begun (groups ++ logged_by s.life (on_command s session asked).0.life) (on_command s session asked).0 }
 {}
 
 /// The shared locks of own transactions are of those that were begun, after each message and command, as long as
@@ -66,37 +68,37 @@ pub fn a_command_keeps_the_facts()
 /// transaction that is begun next, and a begin that starts again at 1.
 pub fn own_locks_are_of_begun_transactions()
     ensures start { (number boot stores : ℕ) → OwnTags (start number boot stores).0.life }
-    ensures message { (begun : ℕ) (s : State) (m : Message) → Facts begun s → OwnTags s.life → Brings m → GrantIsBegun s.life m.note → OwnTags (step s m).0.life }
-    ensures command { (begun : ℕ) (s : State) (session : ℕ) (asked : Command) → Facts begun s → OwnTags s.life → OwnTags (on_command s session asked).0.life }
+    ensures message { (begun : ℕ) (groups : List Group) (s : State) (m : Message) → Facts begun groups s → OwnTags s.life → Brings m → GrantIsBegun s.life m.note → OwnTags (step s m).0.life }
+    ensures command { (begun : ℕ) (groups : List Group) (s : State) (session : ℕ) (asked : Command) → Facts begun groups s → OwnTags s.life → OwnTags (on_command s session asked).0.life }
 {}
 
 /// And so each of them is of an open transaction: of a session's, whose end isn't durable. Refused are a session that
 /// is free while its transaction has locks, and an abort that is durable and leaves its locks.
 pub fn an_own_lock_is_of_an_open_transaction()
-    ensures { (begun : ℕ) (w : Work) (t : PageTag) → WorkFacts begun w → TagsAreBegun w → fin.contains_key w.tags t ≡ true → is_own w t.txn ≡ true → is_open w t.txn.number ≡ true }
+    ensures { (begun : ℕ) (groups : List Group) (w : Work) (t : PageTag) → WorkFacts begun groups w → TagsAreBegun w → fin.contains_key w.tags t ≡ true → is_own w t.txn ≡ true → is_open w t.txn.number ≡ true }
 {}
 
-/// What a log store lacks is the log's: each group that it hasn't acknowledged, and so each one that is sent to it
-/// again, has a number from 1 to the log's length, is the group of that number in the log, and has no mark of that
-/// store. Refused are a list that counts from the first group that is lacked, and one that has a group which the
+/// What a log store lacks is the writer's: each group that it hasn't acknowledged, and so each one that is sent to it
+/// again, has a number from 1 to the last one's, is the writer's group of that number, is still in the log, and has no
+/// mark of that store. Refused are a list that counts from the first group that is lacked, and one that has a group which the
 /// store has acknowledged.
 pub fn what_is_lacked_is_of_the_log()
-    ensures unacked { (begun : ℕ) (w : Work) (store : ℕ) → WorkFacts begun w → AllByRecursion (Lacks w.log.groups store) (unacked w.log.groups store) }
-    ensures resent { (begun : ℕ) (w : Work) (store : ℕ) → WorkFacts begun w → AllByRecursion (Lacks w.log.groups store) (resent w.log.groups store) }
+    ensures unacked { (begun : ℕ) (groups : List Group) (w : Work) (store : ℕ) → WorkFacts begun groups w → AllByRecursion (Lacks groups w.log store) (unacked w.log.groups store) }
+    ensures resent { (begun : ℕ) (groups : List Group) (w : Work) (store : ℕ) → WorkFacts begun groups w → AllByRecursion (Lacks groups w.log store) (resent w.log.groups store) }
 {}
 
-/// How a message moves the state on: the log grows at its end alone and loses no acknowledgement, so what is durable
-/// stays so; scalar and heard stamps never fall, nor do epochs of pages and the numbers of transactions and requests;
+/// How a message moves the state on: the log grows at its end alone, keeps its groups but for those that it lets go from
+/// the front, and loses no acknowledgement, so what is durable stays so; scalar and heard stamps never fall, nor do epochs of pages and the numbers of transactions and requests;
 /// in one epoch a lease goes from held over recalled and given back to none, and what is kept of a page that is being
 /// given back stays; an end that is known stays known, and so does a writer's recovery; a fenced master stays fenced.
 /// Refused is a Roster that lifts the fence, a grant at a lower epoch, and an acknowledgement that takes another one back.
 pub fn a_message_goes()
-    ensures { (begun : ℕ) (s : State) (m : Message) → Facts begun s → Brings m → Goes s (step s m).0 }
+    ensures { (begun : ℕ) (groups : List Group) (s : State) (m : Message) → Facts begun groups s → Brings m → Goes s (step s m).0 }
 {}
 
 /// So does a command. Refused is an abort that cuts the log, and one that gives a transaction's number back.
 pub fn a_command_goes()
-    ensures { (begun : ℕ) (s : State) (session : ℕ) (asked : Command) → Facts begun s → Goes s (on_command s session asked).0 }
+    ensures { (begun : ℕ) (groups : List Group) (s : State) (session : ℕ) (asked : Command) → Facts begun groups s → Goes s (on_command s session asked).0 }
 {}
 
 /// A state goes on to itself, as on a tick. It speaks of the relation alone: refused is one that wants a step.
@@ -147,9 +149,9 @@ pub fn a_get_reads_what_has_ended()
 /// without a word. Refused are a put that asks for the lease of a fresh page that it has, a get that tells of its
 /// shared lock, and a split that registers its pages.
 pub fn a_path_that_is_here_is_quiet()
-    ensures get { (begun : ℕ) (s : State) (session table : ℕ) (key : List ℕ) → Facts begun s → PathIsHere s.life table key → QuietOrAsking (on_command s session (command.Get table key)).1 (on_command s session (command.Get table key)).2 }
-    ensures put { (begun : ℕ) (s : State) (session table : ℕ) (key value : List ℕ) → Facts begun s → PathIsHere s.life table key → QuietOrAsking (on_command s session (command.Put table key value)).1 (on_command s session (command.Put table key value)).2 }
-    ensures del { (begun : ℕ) (s : State) (session table : ℕ) (key : List ℕ) → Facts begun s → PathIsHere s.life table key → QuietOrAsking (on_command s session (command.Del table key)).1 (on_command s session (command.Del table key)).2 }
+    ensures get { (begun : ℕ) (groups : List Group) (s : State) (session table : ℕ) (key : List ℕ) → Facts begun groups s → PathIsHere s.life table key → QuietOrAsking (on_command s session (command.Get table key)).1 (on_command s session (command.Get table key)).2 }
+    ensures put { (begun : ℕ) (groups : List Group) (s : State) (session table : ℕ) (key value : List ℕ) → Facts begun groups s → PathIsHere s.life table key → QuietOrAsking (on_command s session (command.Put table key value)).1 (on_command s session (command.Put table key value)).2 }
+    ensures del { (begun : ℕ) (groups : List Group) (s : State) (session table : ℕ) (key : List ℕ) → Facts begun groups s → PathIsHere s.life table key → QuietOrAsking (on_command s session (command.Del table key)).1 (on_command s session (command.Del table key)).2 }
 {}
 
 /// Committed and Aborted are answered to a session of its own transaction alone, which has ended with that outcome,
@@ -159,21 +161,21 @@ pub fn a_path_that_is_here_is_quiet()
 /// for a group before its end.
 pub fn ends_are_durable()
     ensures of_session { (s : State) (session : ℕ) (asked : Command) → SaysEndIn s.life session (on_command s session asked).1 }
-    ensures in_log { (begun : ℕ) (s : State) (session : ℕ) (asked : Command) → Facts begun s → SaysDurableIn s.life (on_command s session asked).1 }
+    ensures in_log { (begun : ℕ) (groups : List Group) (s : State) (session : ℕ) (asked : Command) → Facts begun groups s → SaysDurableIn groups s.life (on_command s session asked).1 }
 {}
 
-/// An own transaction that counts as ended has its end in the log, with one outcome or the other, and durable: so
+/// An own transaction that counts as ended has its end among the groups that were logged, with one outcome or the other, and durable: so
 /// that end binds whoever reads a row of it, or is told of its fate. Refused is a master that counts a transaction as
 /// ended once its end is logged, and one that frees a session before.
 pub fn what_has_ended_is_durable()
-    ensures { (begun : ℕ) (w : Work) (number : ℕ) → WorkFacts begun w → has_ended w number ≡ true → EndIsDurable w.log number }
+    ensures { (begun : ℕ) (groups : List Group) (w : Work) (number : ℕ) → WorkFacts begun groups w → has_ended w number ≡ true → EndIsDurable (whole_of groups w.log) number }
 {}
 
-/// And no other has: an open transaction has no end in the durable part of the log, with neither outcome. So it counts
+/// And no other has: an open transaction has no end among the durable groups, with neither outcome. So it counts
 /// as ended exactly where its end is durable. Refused is a master that counts a transaction as open until its session
 /// is free.
 pub fn an_open_transaction_has_no_durable_end()
-    ensures { (begun : ℕ) (w : Work) (number : ℕ) (committed : Bool) → WorkFacts begun w → is_open w number ≡ true → DurableEnd w.log (own_txn w.log number) committed → ⊥ }
+    ensures { (begun : ℕ) (groups : List Group) (w : Work) (number : ℕ) (committed : Bool) → WorkFacts begun groups w → is_open w number ≡ true → DurableEnd (whole_of groups w.log) (own_txn w.log.writer number) committed → ⊥ }
 {}
 
 /// A mark in the own log comes only from an acknowledgement: of a group of the own writer, by the log store itself, of
@@ -246,23 +248,23 @@ pub fn what_is_kept_of_a_page_was_sent()
 /// joins as the number of its boot.
 pub fn a_life_is_of_its_master()
     ensures start { (number boot stores : ℕ) → IsNamed (start number boot stores).0 }
-    ensures message { (begun : ℕ) (s : State) (m : Message) → Facts begun s → Brings m → IsNamed s → IsNamed (step s m).0 }
-    ensures command { (begun : ℕ) (s : State) (session : ℕ) (asked : Command) → Facts begun s → IsNamed s → IsNamed (on_command s session asked).0 }
+    ensures message { (begun : ℕ) (groups : List Group) (s : State) (m : Message) → Facts begun groups s → Brings m → IsNamed s → IsNamed (step s m).0 }
+    ensures command { (begun : ℕ) (groups : List Group) (s : State) (session : ℕ) (asked : Command) → Facts begun groups s → IsNamed s → IsNamed (on_command s session asked).0 }
 {}
 
-/// What is sent says what stays so: an Append's group stands in the log at its number; a Stable's number is durable; a
+/// What is sent says what stays so: an Append's group stands among the writer's groups at its number; a Stable's number is durable; a
 /// RequestFresh has a number up to the one after the last that was answered; a page that was released is over in that
 /// epoch, or is being given back with just the body that was told; a transaction of which it was told that it has ended
 /// has a durable end. Refused is a Fate that says ended of a transaction whose end is logged and not durable.
 pub fn sent_messages_say_what_stays()
-    ensures { (begun : ℕ) (s : State) (messages : List Message) → Facts begun s → IsNamed s → Sent s messages → AllByRecursion (MessageFact s) messages }
+    ensures { (begun : ℕ) (groups : List Group) (s : State) (messages : List Message) → Facts begun groups s → IsNamed s → Sent s messages → AllByRecursion (MessageFact groups s) messages }
 {}
 
-/// And it stays so, however the state goes on. It speaks of the relation alone: refused is one by which a page that was
+/// And it stays so, however the state goes on and whatever is logged. It speaks of the relation alone: refused is one by which a page that was
 /// given back may be recalled once more in its epoch, and one by which what is kept of it may change. A step that does
 /// so is refused by `a_message_goes`.
 pub fn what_messages_say_stays()
-    ensures { (s t : State) (m : Message) → Goes s t → MessageFact s m → MessageFact t m }
+    ensures { (groups more : List Group) (s t : State) (m : Message) → Goes s t → MessageFact groups s m → MessageFact (groups ++ more) t m }
 {}
 
 /// A get is answered a value where a session's transaction hasn't begun to end, the key's path is held, not recalled and
@@ -291,6 +293,15 @@ pub fn recalled_pages_go_once_they_may()
     ensures command { (s : State) (session : ℕ) (asked : Command) → LifeRests s.life → LifeRests (on_command s session asked).0.life }
 {}
 
+/// In no state has the log a durable group: each is let go in the step that makes it durable. So a log takes the memory of
+/// the groups that aren't durable, however long its master lives. Refused are an acknowledgement that lets go what was
+/// durable before it and no more, and one that lets nothing go.
+pub fn no_log_has_a_durable_group()
+    ensures start { (number boot stores : ℕ) → LifeHasNoneDurable (start number boot stores).0.life }
+    ensures message { (s : State) (m : Message) → Brings m → LifeHasNoneDurable s.life → LifeHasNoneDurable (step s m).0.life }
+    ensures command { (s : State) (session : ℕ) (asked : Command) → LifeHasNoneDurable s.life → LifeHasNoneDurable (on_command s session asked).0.life }
+{}
+
 /// What a session's command is answered has its cause, and asks for what it names: a master that hasn't joined or is
 /// fenced says that, and nothing else; a lock is of a transaction that isn't known to have ended, and is an own one or was
 /// told to be open; a fate is asked for, by one Ask, of another writer's transaction of which neither is known; a page
@@ -317,6 +328,6 @@ pub fn a_recovery_answers_its_stage()
 /// only what they tell, and one that hears the last one alone.
 pub fn groups_that_are_read_are_heard()
     ensures start { (number boot stores : ℕ) → ReadAreHeard (start number boot stores).0.life }
-    ensures message { (begun : ℕ) (s : State) (m : Message) → Facts begun s → Brings m → ReadAreHeard s.life → ReadAreHeard (step s m).0.life }
-    ensures command { (begun : ℕ) (s : State) (session : ℕ) (asked : Command) → Facts begun s → ReadAreHeard s.life → ReadAreHeard (on_command s session asked).0.life }
+    ensures message { (begun : ℕ) (groups : List Group) (s : State) (m : Message) → Facts begun groups s → Brings m → ReadAreHeard s.life → ReadAreHeard (step s m).0.life }
+    ensures command { (begun : ℕ) (groups : List Group) (s : State) (session : ℕ) (asked : Command) → Facts begun groups s → ReadAreHeard s.life → ReadAreHeard (on_command s session asked).0.life }
 {}

@@ -6,7 +6,7 @@ pub returns-clause-start : goal.returns-clause-start
 returns-clause-start c number boot stores = tt
 
 pub returns-clause-message : goal.returns-clause-message
-returns-clause-message c begun s m f brings named = named_by_message s m brings (message_goes begun s m f brings) named
+returns-clause-message c begun groups s m f brings named = named_by_message s m brings (message_goes begun groups s m f brings) named
 
 pub returns-clause-command : goal.returns-clause-command
-returns-clause-command c begun s session asked f named = named_by_command s session asked (asked_goes begun s session asked f) named
+returns-clause-command c begun groups s session asked f named = named_by_command s session asked (asked_goes begun groups s session asked f) named

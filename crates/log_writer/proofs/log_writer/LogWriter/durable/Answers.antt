@@ -1,8 +1,7 @@
-use Rattle.std.proofs.Common.{ap, ◌∙◌}
-use Rattle.log_writer.specs.Acks.{has_all}
-use Rattle.log_writer.proofs.PrefixLemmas.{prefix_within}
+use Rattle.std.proofs.Common.{ap, sym, ◌∙◌}
+use Rattle.log_writer.specs.Log.{Log, durable_count}
+use Rattle.log_writer.proofs.PrefixLemmas.{durable_short}
 use Rattle.log_writer.proofs.log_writer.LogWriter.durable.Goals as goal
 
 pub stamp_at-requires : goal.stamp_at-requires
-stamp_at-requires c =
-    prefix_within c.args.self.now.groups c.as_slice.result.now (λ l. has_all l.acks) c.durable_seq.result c.durable_seq.ensures (c.as_slice.ensures.value ∙ ap (λ l. l.groups) c.self.view_is)
+stamp_at-requires c = durable_short c.self.inside.groups.items c.durable_count.result (c.durable_count.ensures ∙ sym (ap (λ (l : Log). durable_count l.groups) c.self.view_is))
