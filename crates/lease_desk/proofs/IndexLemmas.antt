@@ -5,13 +5,13 @@ use Rattle.std.specs.Result.{is_err}
 use Rattle.std.specs.declared.result.Result.{Result}
 use Rattle.std.specs.declared.result.Result.TheVariants.{Ok, Err}
 use Rattle.tm_lists.specs.declared.memory.NoMemory.{NoMemory}
-use Rattle.std.specs.FinMap.{get, insert, gets}
+use Rattle.std.specs.FinMap.{get, insert, remove, gets}
 use Rattle.std.proofs.lemmas.Bool.Decides.{nat_tests}
 use Rattle.tm_data.specs.declared.transaction.Page.{Page}
 use Rattle.lease_desk.specs.declared.lease.Lease.{Lease}
 use Rattle.lease_desk.specs.declared.lease.Lease.TheVariants as lease
 use Rattle.lease_desk.specs.declared.lease.PageLease.{PageLease}
-use Rattle.lease_desk.specs.Desk.{Leases, lease_of, or_unseen, IsNext}
+use Rattle.lease_desk.specs.Desk.{Leases, lease_of, or_unseen, unseen, IsNext}
 use Rattle.lease_desk.specs.Inside.{is_in, is_ranked, key, has_rank, IsIndexed, IsNextRanked}
 
 -- ---- numbers
@@ -101,6 +101,13 @@ pub is_going : (m : Leases) (held going : List ℕ) (page rank : ℕ) (b : Bool)
 is_going m held going page rank b fits some ranks h old =
     ap (λ (x : Bool). cond x (is_in held page) (is_in going (key rank page))) (sym (rank_not_0 rank some)) ∙ h rank page ranks fits ∙ old
 
+pub other_rank : (rank : ℕ) → 1 ≤ rank → nat_eq 0 rank ≡ false
+other_rank rank some = by (nat_eq 0 rank) refl
+  where
+    by : (b : Bool) → nat_eq 0 rank ≡ b → b ≡ false
+    by true is = absurd (let none : 0 ≡ rank = grind (arith, nat_tests) in omega (arith, some, none))
+    by false is = refl
+
 none_rank : (s : Lease) (r : ℕ) → s ≡ lease.None → has_rank s r ≡ false
 none_rank s r is = ap (λ (x : Lease). has_rank x r) is
 
@@ -116,22 +123,63 @@ index_begun m held held' going going' page l fits h free is_held same added =
     here r true is out = held_here held held' page true added
     here r false is out = out
 
--- A held page is recalled.
-pub index_gone : (m : Leases) (held held' going going' : List ℕ) (page : ℕ) (l : PageLease) → page < 2 ^ 32 → IsIndexed m held going → (lease_of m page).state ≡ lease.Held → l.state ≡ lease.Recalled
-    → ((k : ℕ) → is_in held' k ≡ cond (nat_eq k page) false (is_in held k)) → ((k : ℕ) → is_in going' k ≡ cond (nat_eq k (key 1 page)) true (is_in going k)) → IsIndexed (insert m page l) held' going'
-index_gone m held held' going going' page l fits h old new less more =
-    index_set m held held' going going' page l h (λ r rank. here r rank (nat_eq r 0) refl (h r page rank fits ∙ ap (λ (s : Lease). has_rank s r) old) ∙ ap (λ (s : Lease). has_rank s r) (sym new))
+-- A held page goes, to a state of another rank.
+pub index_gone : (m : Leases) (held held' going going' : List ℕ) (page to : ℕ) (l : PageLease) → page < 2 ^ 32 → 1 ≤ to → to < 3 → IsIndexed m held going → (lease_of m page).state ≡ lease.Held
+    → ((r : ℕ) → has_rank l.state r ≡ nat_eq r to) → ((k : ℕ) → is_in held' k ≡ cond (nat_eq k page) false (is_in held k)) → ((k : ℕ) → is_in going' k ≡ cond (nat_eq k (key to page)) true (is_in going k))
+    → IsIndexed (insert m page l) held' going'
+index_gone m held held' going going' page to l fits some ranks h old new less more =
+    index_set m held held' going going' page l h (λ r rank. here r rank (nat_eq r 0) refl (h r page rank fits ∙ ap (λ (s : Lease). has_rank s r) old) ∙ sym (new r))
     (λ r q rank within other.
     ap (λ (x : Bool). cond (nat_eq r 0) x (is_in going' (key r q))) (held_set held held' page q false less other)
-    ∙ ap (cond (nat_eq r 0) (is_in held q)) (going_set going going' page 1 r q true (omega arith) fits rank within more other))
+    ∙ ap (cond (nat_eq r 0) (is_in held q)) (going_set going going' page to r q true ranks fits rank within more other))
   where
-    here : (r : ℕ) → r < 3 → (b : Bool) → nat_eq r 0 ≡ b → cond b (is_in held page) (is_in going (key r page)) ≡ nat_eq r 0 → cond b (is_in held' page) (is_in going' (key r page)) ≡ nat_eq r 1
-    here r rank true is was = held_here held held' page false less ∙ (let none : r ≡ 0 = grind (arith, nat_tests) in sym (ap (λ (n : ℕ). nat_eq n 1) none))
-    here r rank false is was = going_here going going' page 1 r true (omega arith) fits rank more ∙ ap (cond (nat_eq r 1) true) (was ∙ is) ∙ by (nat_eq r 1)
+    here : (r : ℕ) → r < 3 → (b : Bool) → nat_eq r 0 ≡ b → cond b (is_in held page) (is_in going (key r page)) ≡ nat_eq r 0 → cond b (is_in held' page) (is_in going' (key r page)) ≡ nat_eq r to
+    here r rank true is was = held_here held held' page false less ∙ (let none : r ≡ 0 = grind (arith, nat_tests) in sym (ap (λ (n : ℕ). nat_eq n to) none ∙ other_rank to some))
+    here r rank false is was = going_here going going' page to r true ranks fits rank more ∙ ap (cond (nat_eq r to) true) (was ∙ is) ∙ by (nat_eq r to)
       where
         by : (x : Bool) → cond x true false ≡ x
         by true = refl
         by false = refl
+
+-- A held page has no lease any more.
+pub index_left : (m m' : Leases) (held held' going : List ℕ) (page : ℕ) → page < 2 ^ 32 → IsIndexed m held going → (lease_of m page).state ≡ lease.Held → (lease_of m' page).state ≡ lease.None
+    → ((q : ℕ) → (q ≡ page → ⊥) → lease_of m' q ≡ lease_of m q) → ((k : ℕ) → is_in held' k ≡ cond (nat_eq k page) false (is_in held k)) → IsIndexed m' held' going
+index_left m m' held held' going page fits h old new others less r q rank within = by (nat_eq q page) refl
+  where
+    here : (b : Bool) → nat_eq r 0 ≡ b → cond b (is_in held page) (is_in going (key r page)) ≡ nat_eq r 0 → cond b (is_in held' page) (is_in going (key r page)) ≡ false
+    here true is was = held_here held held' page false less
+    here false is was = was ∙ is
+
+    by : (b : Bool) → nat_eq q page ≡ b → is_ranked held' going r q ≡ has_rank (lease_of m' q).state r
+    by true is =
+        let same : page ≡ q = grind (arith, nat_tests) in
+        subst (λ (n : ℕ). is_ranked held' going r n ≡ has_rank (lease_of m' n).state r) same
+        (here (nat_eq r 0) refl (h r page rank fits ∙ ap (λ (s : Lease). has_rank s r) old) ∙ sym (none_rank (lease_of m' page).state r new))
+    by false is =
+        let other : q ≡ page → ⊥ = λ same. grind (arith, nat_tests) in
+        ap (λ (x : Bool). cond (nat_eq r 0) x (is_in going (key r q))) (held_set held held' page q false less other) ∙ h r q rank within ∙ ap (λ (x : PageLease). has_rank x.state r) (sym (others q other))
+
+pub left_here : (m : Leases) (page : ℕ) (l : PageLease) → l.state ≡ lease.None → (lease_of (insert m page l) page).state ≡ lease.None
+left_here m page l none = ap (λ (x : PageLease). x.state) (lease_here m page l) ∙ none
+
+pub left_other : (m : Leases) (page q : ℕ) (l : PageLease) → (q ≡ page → ⊥) → lease_of (insert m page l) q ≡ lease_of m q
+left_other m page q l other = lease_other m page q l other
+
+pub forgotten_here : (m : Leases) (page : ℕ) → (lease_of (remove m page) page).state ≡ lease.None
+forgotten_here m page = ap (λ (x : PageLease). x.state) (here m page)
+  where
+    here : (m : Leases) (page : ℕ) → lease_of (remove m page) page ≡ unseen
+    here m page = grind (arith, nat_tests, gets)
+
+pub forgotten_other : (m : Leases) (page q : ℕ) → (q ≡ page → ⊥) → lease_of (remove m page) q ≡ lease_of m q
+forgotten_other m page q other = grind (arith, nat_tests, gets)
+
+-- The ranks of a state that goes.
+pub recalled_rank : (l : PageLease) → l.state ≡ lease.Recalled → (r : ℕ) → has_rank l.state r ≡ nat_eq r 1
+recalled_rank l is r = ap (λ (s : Lease). has_rank s r) is
+
+pub releasing_rank : (l : PageLease) → l.state ≡ lease.Releasing → (r : ℕ) → has_rank l.state r ≡ nat_eq r 2
+releasing_rank l is r = ap (λ (s : Lease). has_rank s r) is
 
 -- A recalled page is being released.
 pub index_given : (m : Leases) (held going between going' : List ℕ) (page : ℕ) (l : PageLease) → page < 2 ^ 32 → IsIndexed m held going → (lease_of m page).state ≡ lease.Recalled → l.state ≡ lease.Releasing
@@ -187,13 +235,6 @@ index_ended m held going going' page l fits h old new less =
 
 pub rank_itself : (rank : ℕ) → nat_eq rank rank ≡ true
 rank_itself rank = grind (arith, nat_tests)
-
-pub other_rank : (rank : ℕ) → 1 ≤ rank → nat_eq 0 rank ≡ false
-other_rank rank some = by (nat_eq 0 rank) refl
-  where
-    by : (b : Bool) → nat_eq 0 rank ≡ b → b ≡ false
-    by true is = absurd (let none : 0 ≡ rank = grind (arith, nat_tests) in omega (arith, some, none))
-    by false is = refl
 
 -- A page that has a rank is kept.
 pub ranked_kept : (m : Leases) (page rank : ℕ) → ((r : ℕ) → has_rank (lease_of m page).state r ≡ nat_eq r rank) → IsSome (get m page)

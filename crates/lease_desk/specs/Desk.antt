@@ -89,6 +89,11 @@ released_from m page epoch (Some l) = set_if m page (record l { state = lease.No
 abbrev pub released : Leases → ℕ → ℕ → Leases
 released m page epoch = released_from m page epoch (get m page)
 
+-- What was kept of a page, if anything was, is kept of it again.
+abbrev pub restored : Leases → ℕ → Option PageLease → Leases
+restored m page None = map.remove m page
+restored m page (Some l) = insert m page l
+
 -- The least page above `after` whose lease is in the state, or none up to 2^32 - 1.
 abbrev pub IsNext : Leases → Lease → ℕ → Option Page → Type 0
 IsNext m state after None = (page : ℕ) → after < page → page < 2 ^ 32 → (lease_of m page).state ≢ state

@@ -6,7 +6,7 @@ ghost use Rattle.std.specs.FinMap as map;
 ghost use Rattle.lease_desk.specs.declared.lease.Lease.TheVariants as lease;
 ghost use Rattle.std.specs.Prelude.{◌+◌, length};
 ghost use Rattle.lease_desk.specs.Inside.{has_rank, is_in, IsNextRanked, key, Slots};
-ghost use Rattle.lease_desk.specs.Desk.{lease_of, granted, recalled, changed, releasing, released, is_ready, IsNext};
+ghost use Rattle.lease_desk.specs.Desk.{lease_of, granted, recalled, changed, releasing, released, restored, is_ready, IsNext};
 
 use crate::held_pages::HeldPages;
 use crate::key_set::KeySet;
@@ -150,7 +150,7 @@ impl Desk {
                 state: Lease::Recalled,
                 stamp: lease.stamp,
             };
-            self.go(page.0, lease);
+            self.go(page.0, lease, RECALLED);
         }
     }
 
@@ -214,6 +214,31 @@ impl Desk {
             };
             self.end(page.0, lease);
         }
+    }
+
+    /// Takes a grant back: what was kept of the held page before it, if anything was, is kept again. It takes no
+    /// memory.
+    pub fn take_back(&mut self, page: Page, kept: Option<PageLease>)
+        requires { (lease_of self.old page.0).state ≡ lease.Held }
+        ensures { self.new ≡ restored self.old page.0 kept }
+    {
+        let Some(kept) = kept else {
+            self.forget(page.0);
+            return;
+        };
+        match kept.state {
+            Lease::None => self.leave(page.0, kept),
+            Lease::Held => self.keep(page.0, kept),
+            Lease::Recalled => self.go(page.0, kept, RECALLED),
+            Lease::Releasing => self.go(page.0, kept, RELEASING),
+        }
+    }
+
+    /// What is kept of a page, if it was ever granted here.
+    pub fn kept(&self, page: Page) -> Option<PageLease>
+        ensures { result ≡ map.get self.now page.0 }
+    {
+        self.leases.get(page.0)
     }
 
     /// The least page with a number above `after` whose lease is in this state. It is found by halving; one
@@ -294,15 +319,35 @@ impl Desk {
         self.leases.set(page, kept);
     }
 
-    /// A held page is recalled.
-    fn go(&mut self, page: u32, kept: PageLease)
+    /// A held page goes, to a state of this rank.
+    fn go(&mut self, page: u32, kept: PageLease, to: u64)
+        requires going { (1 ≤ to) × (to < 3) }
         requires old { (lease_of self.old page).state ≡ lease.Held }
-        requires new { kept.state ≡ lease.Recalled }
+        requires new { (rank : ℕ) → has_rank kept.state rank ≡ nat_eq rank to }
         ensures { self.new ≡ map.insert self.old page kept }
     {
         self.held.remove(page);
-        self.going.add(key_of(RECALLED, page));
+        self.going.add(key_of(to, page));
         self.leases.set(page, kept);
+    }
+
+    /// A held page has no lease any more.
+    fn leave(&mut self, page: u32, kept: PageLease)
+        requires old { (lease_of self.old page).state ≡ lease.Held }
+        requires new { kept.state ≡ lease.None }
+        ensures { self.new ≡ map.insert self.old page kept }
+    {
+        self.held.remove(page);
+        self.leases.set(page, kept);
+    }
+
+    /// A held page was never granted here.
+    fn forget(&mut self, page: u32)
+        requires { (lease_of self.old page).state ≡ lease.Held }
+        ensures { self.new ≡ map.remove self.old page }
+    {
+        self.held.remove(page);
+        self.leases.forget(page);
     }
 
     /// A recalled page is being released.

@@ -65,4 +65,11 @@ impl LeaseMap {
     {
         let _ = self.put(page, lease);
     }
+
+    /// Keeps nothing of a page.
+    pub(crate) fn forget(&mut self, page: u32)
+        ensures { self.new ≡ map.remove self.old page }
+    {
+        self.leases.remove(&page);
+    }
 }

@@ -9,9 +9,11 @@ mod Places
 mod Views
 mod Values
 mod Seeks
+mod Gathers
 mod Asked
 mod Moved
 mod Moving
 mod Putting
+mod Withdrawn
 mod Hashed
 mod Halves

@@ -295,6 +295,10 @@ abbrev pub foreign_in : ℕ → List Entry → Option Tag
 foreign_in own [] = None
 foreign_in own (e ∷ es) = cond (nat_eq e.1.txn.writer.0 own) (foreign_in own es) (Some (tag_of e.1))
 
+-- The tags of a list.
+abbrev pub copies : List Entry → List Tag
+copies es = list_map (λ e. tag_of e.1) es
+
 -- The first other transaction, as long as the tags are on the key.
 abbrev pub other_in : ℕ → List ℕ → Txn → List Entry → Option Txn
 other_in page key own [] = None

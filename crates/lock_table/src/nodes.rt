@@ -1,5 +1,5 @@
 //! The nodes of all tags, with their lists.
-ghost use Rattle.std.specs.Prelude.{◌≡◌, ◌≢◌, ◌≤◌, ◌<◌, ◌^◌, IsSome, ℕ, Option, None, length, ◌+◌, ◌++◌, ◌∷◌, [], List, Some, OnOk, OnErr, filter};
+ghost use Rattle.std.specs.Prelude.{◌≡◌, ◌≢◌, ◌≤◌, ◌<◌, ◌^◌, IsSome, ℕ, Option, None, IfOk, length, ◌+◌, ◌++◌, ◌∷◌, [], List, Some, OnOk, OnErr, filter};
 ghost use Rattle.std.specs.Option.{option_copied};
 ghost use Rattle.slab.specs.Slab as slab;
 ghost use Rattle.std.specs.List.{AllByRecursion};
@@ -10,7 +10,7 @@ ghost use Rattle.lock_table.specs.Tags.{is_on_key, same_txn, PageTag, tag_of, pa
 ghost use Rattle.lock_table.specs.declared.node.Side.TheVariants as side;
 ghost use Rattle.lock_table.specs.Putting.{HasPlace, IsReady, Grows, Stays, HavePut};
 ghost use Rattle.lock_table.specs.Moving.{to_page, Moves, HaveMoved};
-ghost use Rattle.lock_table.specs.Inside.{foreign_in, other_in, least, head_of, IsLinked, Entry, Stand, IsList, tag_in, tag_at, link_at, head_in, kept, shorter, gap_of, upto, from, on, of, Ascend, IsOrder, Lacks, IsOpen, IsSame, is_tag, at_place, unlinked, joined};
+ghost use Rattle.lock_table.specs.Inside.{copies, foreign_in, other_in, least, head_of, IsLinked, Entry, Stand, IsList, tag_in, tag_at, link_at, head_in, kept, shorter, gap_of, upto, from, on, of, Ascend, IsOrder, Lacks, IsOpen, IsSame, is_tag, at_place, unlinked, joined};
 
 use crate::heads::{Head, PageHeads, TxnHeads};
 use crate::node::{Link, Node, Side, rejoin, settle};
@@ -20,7 +20,7 @@ use slab::Slab;
 use std::alloc::Global;
 use std::marker::Brand;
 use std::sync::ledger::{Blank, Ledger};
-use tm_base::{Key, Mem, NoMemory, Page, Steps, Tag, Txn, Writer};
+use tm_base::{Key, Mem, NoMemory, Page, Steps, Tag, TagList, TryCopy, Txn, Writer};
 
 /// All tags, each a node of the slab, which stands in the list of its page and in that of its transaction.
 #[derive(Drop)]
@@ -208,6 +208,26 @@ impl Nodes {
         None
     }
 
+    /// Copies of the tags on a page, in order.
+    pub(crate) fn copies_on(&self, alloc: Global, page: Page) -> Mem<TagList>
+        ensures { (es : List Entry) → Stand self.now es → IfOk result (λ tags. tags ≡ copies (filter (on page.0) es)) }
+    {
+        let head = or_empty(self.pages.get(page.0));
+        let mut tags = TagList::new(alloc);
+        let mut next = head.first;
+        for _ in 0..head.count {
+            let Some(at) = next else {
+                return Ok(tags);
+            };
+            let Some(node) = self.slab.get(at) else {
+                return Ok(tags);
+            };
+            tags.push(node.tag.copy()?)?;
+            next = node.on_page.next;
+        }
+        Ok(tags)
+    }
+
     /// The first other transaction with a tag on a key.
     pub(crate) fn other(&self, page: Page, key: &Key, own: Txn) -> Option<Txn>
         ensures { (es : List Entry) → Stand self.now es → result ≡ other_in page.0 key.now own (from (page_tag page.0 key.now least) (filter (on page.0) es)) }
@@ -327,9 +347,9 @@ impl Nodes {
         self.txns.set(txn, rest.with(key, of_txn));
     }
 
-    /// Takes out a node that was to stand where one stands already: tags that are alike are one. No tag is lost by
-    /// it, and so it counts in no ledger of a caller's.
-    fn merge<L: Ledger>(&mut self, key: usize, blank: Blank)
+    /// Takes out a node that counts in no ledger of a caller's: one that was to stand where one like it stands, so
+    /// that no tag is lost, or one whose tag is taken back.
+    pub(crate) fn withdraw<L: Ledger>(&mut self, key: usize, blank: Blank)
         requires held { ContainsKey self.old.slab key }
         requires ledger { (blank.name ≡ L.name) × (blank.parts ≡ L.parts) × (1 ≤ blank.parts) }
         ensures removed { (xs ys : List Entry) (t : PageTag) → Stand self.old (xs ++ (key, t) ∷ ys) → Stand self.new (xs ++ ys) }
@@ -358,7 +378,7 @@ impl Nodes {
         let (txn, next) = (node.tag.txn, node.on_page.next);
         let place = self.place(to, &node.tag.key, txn);
         if self.holds(place.next, to, &node.tag.key, txn) {
-            self.merge::<Brand>(key, Blank::new(1));
+            self.withdraw::<Brand>(key, Blank::new(1));
             return next;
         }
         self.settle_on(key, to, place);

@@ -8,8 +8,8 @@ ghost use Rattle.lock_table.specs.declared.tags.TagError.TheVariants as TagError
 
 use crate::nodes::Nodes;
 use std::alloc::Global;
-use std::marker::Model;
-use std::sync::ledger::Ledger;
+use std::marker::{Brand, Model};
+use std::sync::ledger::{Blank, Ledger};
 use tm_base::{Key, Mem, NoMemory, Page, Steps, Tag, TagList, TryCopy, Txn, Writer};
 
 /// A page takes tags up to this number; more stand on it only where they were put there with the page.
@@ -160,6 +160,36 @@ impl Tags {
             tags.push(tag)?;
         }
         Ok(TagList::from_vec(tags))
+    }
+
+    /// Takes out the tags of a page, each in one step. It takes no memory.
+    pub fn drop_page<L: Ledger>(&mut self, page: Page, steps: &mut Steps<L>)
+        ensures gone { self.new ≡ without_page self.old page.0 }
+        ensures exactly { steps.new ≡ steps.old + length (tags_on self.old page.0) }
+    {
+        self.forget(page);
+        while self.take_on(page, steps).is_some() {}
+    }
+
+    /// Copies of the tags of a page, ascending by key and transaction.
+    pub fn copy_page(&self, page: Page) -> Mem<TagList>
+        ensures { IfOk result (λ tags. tags ≡ tags_on self.now page.0) }
+    {
+        let tags = self.nodes.copies_on(self.alloc, page)?;
+        Ok(tags)
+    }
+
+    /// Takes a tag back, if it is there. It takes no memory, and no step is counted.
+    pub fn remove(&mut self, page: Page, key: &Key, txn: Txn)
+        ensures { self.new ≡ fin.remove self.old (page_tag page.0 key.now txn) }
+    {
+        let place = self.nodes.place(page, key, txn);
+        let Some(at) = place.next else {
+            return;
+        };
+        if self.nodes.holds(place.next, page, key, txn) {
+            self.nodes.withdraw::<Brand>(at, Blank::new(1));
+        }
     }
 
     /// Moves the tags of a page whose keys are at `at` or above to the page `to`. No tag is taken out, and no step is

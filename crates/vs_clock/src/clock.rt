@@ -134,6 +134,17 @@ impl Clock {
     }
 }
 
+impl TryCopy for Clock {
+    fn copy(&self) -> Mem<Clock> {
+        Ok(Clock {
+            writer: self.writer,
+            scalar: self.scalar,
+            heard: self.heard.copy()?,
+            untold: self.untold.copy()?,
+        })
+    }
+}
+
 /// The entries of other writers than `own` that are above what was heard of them.
 fn rising(own: Writer, heard: &Vector, entries: &[VectorEntry]) -> Mem<Vector>
     requires { IsVector entries.now }

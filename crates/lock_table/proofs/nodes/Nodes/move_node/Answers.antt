@@ -76,8 +76,8 @@ returns-then-holds-clause-moved c = λ xs ys t l apart.
     let same : t ≡ tag_in n = tag_there s.slab s.pages s.txns s.orders n key t xs ys node l in
     let l' : Stand s (xs ++ (key, tag_in n) ∷ ys) = subst (λ (z : PageTag). Stand s (xs ++ (key, z) ∷ ys)) same l in
     let apart' : c.args.to.0 ≢ n.page.0 = subst (λ (z : PageTag). c.args.to.0 ≢ z.page) same apart in
-    subst (λ (z : PageTag). (n.on_page.next ≡ head_of (filter (on z.page) ys) None) × Moves key c.args.to.0 z (xs ++ ys) c.merge.new.self) (sym same)
-    (next_is s n key xs ys node l', inr (has_it s n key xs ys node l' c.args.to.0 apart' c.place-place.result.next (sym c.holds.ensures ∙ c.if-holds.true), c.merge.ensures.removed xs ys (tag_in n) l'))
+    subst (λ (z : PageTag). (n.on_page.next ≡ head_of (filter (on z.page) ys) None) × Moves key c.args.to.0 z (xs ++ ys) c.withdraw.new.self) (sym same)
+    (next_is s n key xs ys node l', inr (has_it s n key xs ys node l' c.args.to.0 apart' c.place-place.result.next (sym c.holds.ensures ∙ c.if-holds.true), c.withdraw.ensures.removed xs ys (tag_in n) l'))
 
 pub returns-clause-moved : goal.returns-clause-moved
 returns-clause-moved c = λ xs ys t l apart.

@@ -1,4 +1,4 @@
 use Rattle.lock_table.proofs.nodes.Nodes.move_node.Given as goal
 
-abbrev pub ghosts-merge : goal.ghosts-merge
-ghosts-merge a = record { name = a.blank.name; parts = a.blank.parts }
+abbrev pub ghosts-withdraw : goal.ghosts-withdraw
+ghosts-withdraw a = record { name = a.blank.name; parts = a.blank.parts }
