@@ -1,0 +1,6 @@
+mod DiskLemmas
+mod HistoryLemmas
+mod OverwriteLemmas
+mod PaddedLemmas
+mod PlanLemmas
+mod StoreLemmas
