@@ -1,12 +1,12 @@
 -- The invariant holds before any node has started.
-use Rattle.std.proofs.Common.{◌≡◌, ◌-◌, ℕ, Bool, true, false, cond, nat_eq, List, [], ◌∷◌, slice_get, Option, Some, None, refl, sym, subst, ap, ◌∙◌, arith}
+use Rattle.std.proofs.Common.{◌≡◌, ℕ, true, false, List, [], ◌∷◌, Option, Some, None, refl, sym, subst, ap, ◌∙◌, arith}
 use Rattle.std.specs.Ordering.{nat_cmp}
 use Rattle.std.specs.FinMap.{FinMap, gets}
 use Rattle.std.specs.FinMap as fin
 use Rattle.std.specs.FinSet as sets
 use Rattle.tm_data.specs.Orders.{writer_cmp}
 use Rattle.tm_data.specs.declared.log.Group.{Group}
-use Rattle.log_writer.specs.Log.{is_marked, marked_of}
+use Rattle.master_model.specs.Causes.{is_noted}
 use Rattle.master_model.specs.State.{Life}
 use Rattle.store_model.specs.LogState.{start}
 use Rattle.store_model.specs.LogFacts.{Facts}
@@ -19,7 +19,7 @@ use Rattle.world_model.specs.Disk.{Disk, opened}
 use Rattle.world_model.specs.World.{World, log_disk_of, or_blank, or_zero, stopped}
 use Rattle.world_model.specs.Nodes.{message_size}
 use Rattle.world_model.specs.Step.{begins, nodes, with_started}
-use Rattle.world_laws.specs.Beside.{Beside, acked_by, durable_by, log_by, logged_by, nothing, or_none}
+use Rattle.world_laws.specs.Beside.{Beside, acked_by, durable_by, log_by, nothing, or_none}
 use Rattle.world_laws.specs.Invariant.{BeginHolds, LogsHold, StoppedHolds}
 use Rattle.world_laws.specs.Kept.{end_of, hard, log_kept}
 use Rattle.world_laws.specs.LogStores.{DiskFacts, RunsBy}
@@ -34,13 +34,9 @@ no_map = fin.empty
 none_there : {X : Type 0} (n : ℕ) → fin.get {X = X} no_map n ≡ None
 none_there n = grind (arith, gets)
 
-no_mark : (o : Option Life) (seq store : ℕ) → o ≡ None → is_marked (logged_by o) seq store ≡ true → ⊥
+no_mark : (o : Option Life) (seq store : ℕ) → o ≡ None → is_noted o seq store ≡ true → ⊥
 no_mark (Some l) seq store is h = absurd (cc is)
-no_mark None seq store is h = by (nat_eq seq 0) h
-  where
-    by : (b : Bool) → marked_of (cond b None (slice_get [] (seq - 1))) store ≡ true → ⊥
-    by true h = absurd (let e : false ≡ true = h in cc e)
-    by false h = absurd (let e : false ≡ true = h in cc e)
+no_mark None seq store is h = absurd (let e : false ≡ true = h in cc e)
 
 pub stopped_holds : ((number : ℕ) → Facts (start number)) → ((logs : ℕ → List Group) (most : ℕ → ℕ) (number : ℕ) → IsOf logs most (start number)) → StoppedHolds
 stopped_holds facts of masters page_stores replicas =

@@ -1,5 +1,5 @@
 -- A master's steps: a message that comes, a command, and a tick.
-use Rattle.std.proofs.Common.{◌≡◌, ◌≤◌, ◌⊎◌, ◌-◌, ℕ, Bool, true, false, cond, nat_eq, nat_lt, List, [], ◌∷◌, ◌++◌, length, slice_get, Option, Some, None, inl, inr, refl, sym, subst, ap, ◌∙◌, arith}
+use Rattle.std.proofs.Common.{◌≡◌, ◌≤◌, ◌⊎◌, ℕ, true, nat_lt, List, [], ◌++◌, length, Option, Some, None, inl, inr, refl, sym, subst, ap, ◌∙◌, arith}
 use Rattle.std.proofs.lemmas.List.{append-nil}
 use Rattle.std.specs.List.{AllByRecursion}
 use Rattle.std.specs.Ordering.{nat_cmp}
@@ -20,10 +20,11 @@ use Rattle.lease_desk.specs.Desk.{lease_of}
 use Rattle.lock_model.specs.declared.writer.WriterEntry.{WriterEntry}
 use Rattle.lock_model.specs.State.{page_in}
 use Rattle.lock_model.specs.Told.{RegisteredFact, MessageFact}
-use Rattle.log_writer.specs.Log.{durable_seq, is_marked, marked_of}
-use Rattle.log_writer.specs.declared.logged.Logged.{Logged}
+use Rattle.tm_data.specs.declared.log.Group.{Group}
+use Rattle.tm_data.specs.declared.transaction.Writer.{Writer}
+use Rattle.log_writer.specs.Log.{Log, durable_seq, is_marked, new_log}
 use Rattle.master_model.specs.Causes.{Acknowledges, AcknowledgesOwn, EpochCame, Joins, epoch_in, is_noted, roster_in}
-use Rattle.master_model.specs.Facts.{Brings, Facts, JoinsAfter, LifeFacts, WorkFacts, groups_in}
+use Rattle.master_model.specs.Facts.{Brings, Facts, JoinsAfter, LifeFacts, WorkFacts, logged_by}
 use Rattle.master_model.specs.Goes.{Goes, JoinedGoes}
 use Rattle.master_model.specs.Stages.{RecoveryAsked, RecoveryGoes, RecoveryIsAsked, StageAsked, StagesAreSaid}
 use Rattle.master_model.specs.declared.recovery.Stage.{Stage}
@@ -47,6 +48,7 @@ use Rattle.world_laws.specs.Lives.{JoinedAs, JoinedFact, LifeFact, MasterFact, R
 use Rattle.world_laws.specs.Messages.{AllSay, MasterSays, Says, SaysFrom, View, view}
 use Rattle.world_laws.proofs.ApartLemmas.{apart_holds, nothing_holds}
 use Rattle.world_laws.proofs.LockMoves.{at_itself, StillLaws, view_still}
+use Rattle.world_laws.proofs.MarkLemmas.{none_marked}
 use Rattle.world_laws.proofs.MasterMoves.{LifeMove, after, at_life, at_log, durable_stands, each_number, life_holds, world}
 use Rattle.world_laws.proofs.MasterSteps.{Stepped, goes_on, recovery_by}
 use Rattle.world_laws.proofs.MasterTold.{Heard, heard_from, life_says}
@@ -56,8 +58,8 @@ use Rattle.world_laws.proofs.StoreMessages.{both, each}
 
 -- The laws of a master, as its crate has them.
 pub record MessageLaws : Type 0 where
-  pub facts : (begun : ℕ) (s : State) (m : Message) → Facts begun s → Brings m → JoinsAfter begun s.life m.stamp.0 → Facts begun (step s m).0
-  pub goes : (begun : ℕ) (s : State) (m : Message) → Facts begun s → Brings m → Goes s (step s m).0
+  pub facts : (begun : ℕ) (groups : List Group) (s : State) (m : Message) → Facts begun groups s → Brings m → JoinsAfter begun s.life m.stamp.0 → Facts begun (groups ++ logged_by s.life (step s m).0.life) (step s m).0
+  pub goes : (begun : ℕ) (groups : List Group) (s : State) (m : Message) → Facts begun groups s → Brings m → Goes s (step s m).0
   pub sends : (s : State) (m : Message) → Sent (step s m).0 (step s m).1
   pub marks : (s : State) (m : Message) (seq store : ℕ) → Brings m → is_noted (step s m).0.life seq store ≡ true → (is_noted s.life seq store ≡ true) ⊎ AcknowledgesOwn (step s m).0.life m seq store
   pub begins : (s : State) (m : Message) (l : Life) → s.life ≡ None → (step s m).0.life ≡ Some l → Joins s m l
@@ -67,8 +69,8 @@ pub record MessageLaws : Type 0 where
   pub rosters : (s : State) (m : Message) → (roster_in (step s m).0.life ≡ roster_in s.life) ⊎ (m.note ≡ note.Roster (roster_in (step s m).0.life))
 
 pub record CommandLaws : Type 0 where
-  pub facts : (begun : ℕ) (s : State) (session : ℕ) (asked : Command) → Facts begun s → Facts begun (on_command s session asked).0
-  pub goes : (begun : ℕ) (s : State) (session : ℕ) (asked : Command) → Facts begun s → Goes s (on_command s session asked).0
+  pub facts : (begun : ℕ) (groups : List Group) (s : State) (session : ℕ) (asked : Command) → Facts begun groups s → Facts begun (groups ++ logged_by s.life (on_command s session asked).0.life) (on_command s session asked).0
+  pub goes : (begun : ℕ) (groups : List Group) (s : State) (session : ℕ) (asked : Command) → Facts begun groups s → Goes s (on_command s session asked).0
   pub sends : (s : State) (session : ℕ) (asked : Command) → Sent (on_command s session asked).0 (on_command s session asked).2
   pub marks : (s : State) (session : ℕ) (asked : Command) (seq store : ℕ) → is_noted (on_command s session asked).0.life seq store ≡ true → is_noted s.life seq store ≡ true
   pub waits : (s : State) (session : ℕ) (asked : Command) → s.life ≡ None → (on_command s session asked).0.life ≡ None
@@ -113,12 +115,13 @@ module _ (law : MasterLaws) (w : World) (b : Beside) (number : ℕ) (s : State) 
   epoch_came l page epoch heard (inr (fresh, one)) =
       subst (λ (k : ℕ). k ≤ (page_in (locks_kept w) page).epoch) (sym one) (subst (λ (n : Note). Heard (view w b) m.to m.stamp.0 n m.from) fresh.says heard)
 
-  message_stepped : (old l : Life) → s.life ≡ Some old → new.life ≡ Some l → (start : ℕ) → WorkFacts start old.work → Brings m → Heard (view w b) m.to m.stamp.0 m.note m.from → RosterHeard w m → Stepped w old l (step s m).1
-  message_stepped old l so sq start facts brings heard told =
-      let goes : Goes s new = law.message.goes start s m (subst (LifeFacts start) (sym so) facts) brings in
+  message_stepped : (old l : Life) → s.life ≡ Some old → new.life ≡ Some l → (start : ℕ) (gs : List Group) → WorkFacts start gs old.work → Brings m → Heard (view w b) m.to m.stamp.0 m.note m.from → RosterHeard w m → Stepped w old l (step s m).1
+  message_stepped old l so sq start gs facts brings heard told =
+      let goes : Goes s new = law.message.goes start gs s m (subst (LifeFacts start gs) (sym so) facts) brings in
       record {
         goes = two JoinedGoes s.life new.life (Some old) (Some l) so sq goes.life;
-        facts = λ begun f. subst (LifeFacts begun) sq (law.message.facts begun s m (subst (LifeFacts begun) (sym so) f) brings (subst (λ (o : Option Life). JoinsAfter begun o m.stamp.0) (sym so) tt));
+        facts = λ begun xs f. two (λ o q. LifeFacts begun (xs ++ logged_by o q) q) s.life new.life (Some old) (Some l) so sq
+            (law.message.facts begun xs s m (subst (LifeFacts begun xs) (sym so) f) brings (subst (λ (o : Option Life). JoinsAfter begun o m.stamp.0) (sym so) tt));
         marks = λ seq store is. by_mark seq store
             (two (λ o q. (is_noted o seq store ≡ true) ⊎ AcknowledgesOwn q m seq store) s.life new.life (Some old) (Some l) so sq
             (law.message.marks s m seq store brings (subst (λ (q : Option Life). is_noted q seq store ≡ true) (sym sq) is)));
@@ -134,8 +137,8 @@ module _ (law : MasterLaws) (w : World) (b : Beside) (number : ℕ) (s : State) 
       by_roster (inl same) = inl same
       by_roster (inr says) = inr (record { message = m; says = says; fact = told l.roster says })
 
-      by_mark : (seq store : ℕ) → (is_marked old.work.log.groups seq store ≡ true) ⊎ Acknowledges m l.work.log.writer seq store
-          → (is_marked old.work.log.groups seq store ≡ true) ⊎ (seq ≤ length (log_of (log_kept w store) (writer_of l.work)).groups)
+      by_mark : (seq store : ℕ) → (is_marked old.work.log seq store ≡ true) ⊎ Acknowledges m l.work.log.writer seq store
+          → (is_marked old.work.log seq store ≡ true) ⊎ (seq ≤ length (log_of (log_kept w store) (writer_of l.work)).groups)
       by_mark seq store (inl marked) = inl marked
       by_mark seq store (inr ack) = inr (mark_came l seq store heard ack)
 
@@ -159,14 +162,14 @@ asked_recovery w asked l (Some old) (Some later) (inl same) f = subst (λ (r : R
 asked_recovery w asked l (Some old) (Some later) (inr moves) f =
     subst (λ (k : ℕ). StageFact (log_kept w) (end_of w k) k later.stage) (sym moves.writer) (asked_stage (log_kept w) (end_of w) old.writer l old.stage later.stage moves.stage f)
 
-command_stepped : MasterLaws → (w : World) (s : State) (session : ℕ) (asked : Command) (old l : Life) → s.life ≡ Some old → (on_command s session asked).0.life ≡ Some l → (start : ℕ) → WorkFacts start old.work
+command_stepped : MasterLaws → (w : World) (s : State) (session : ℕ) (asked : Command) (old l : Life) → s.life ≡ Some old → (on_command s session asked).0.life ≡ Some l → (start : ℕ) (gs : List Group) → WorkFacts start gs old.work
     → Stepped w old l (on_command s session asked).2
-command_stepped law w s session asked old l so sq start facts =
+command_stepped law w s session asked old l so sq start gs facts =
     let new = (on_command s session asked).0 in
-    let goes : Goes s new = law.command.goes start s session asked (subst (LifeFacts start) (sym so) facts) in
+    let goes : Goes s new = law.command.goes start gs s session asked (subst (LifeFacts start gs) (sym so) facts) in
     record {
       goes = two JoinedGoes s.life new.life (Some old) (Some l) so sq goes.life;
-      facts = λ begun f. subst (LifeFacts begun) sq (law.command.facts begun s session asked (subst (LifeFacts begun) (sym so) f));
+      facts = λ begun xs f. two (λ o q. LifeFacts begun (xs ++ logged_by o q) q) s.life new.life (Some old) (Some l) so sq (law.command.facts begun xs s session asked (subst (LifeFacts begun xs) (sym so) f));
       marks = λ seq store is. inl (subst (λ (o : Option Life). is_noted o seq store ≡ true) so (law.command.marks s session asked seq store (subst (λ (q : Option Life). is_noted q seq store ≡ true) (sym sq) is)));
       recovery = λ f. asked_recovery w asked l old.recovery l.recovery (two (λ o q. RecoveryIsAsked asked o q) s.life new.life (Some old) (Some l) so sq (law.command.recoveries s session asked)) f;
       epochs = λ page. inl (two (λ o q. epoch_in q page ≡ epoch_in o page) s.life new.life (Some old) (Some l) so sq (law.command.epochs s session asked page));
@@ -226,13 +229,8 @@ waits_on law w b number s new p messages f so sq named boot same ended told h =
 
 -- ---- a life begins
 
-not_marked : (groups : List Logged) (seq store : ℕ) → groups ≡ [] → is_marked groups seq store ≡ true → ⊥
-not_marked (l ∷ ls) seq store is h = absurd (cc is)
-not_marked [] seq store is h = by (nat_eq seq 0) h
-  where
-    by : (c : Bool) → marked_of (cond c None (slice_get [] (seq - 1))) store ≡ true → ⊥
-    by true h = absurd (let e : false ≡ true = h in cc e)
-    by false h = absurd (let e : false ≡ true = h in cc e)
+not_marked : (log : Log) (writer : Writer) (seq store : ℕ) → log ≡ new_log writer → is_marked log seq store ≡ true → ⊥
+not_marked log writer seq store is h = none_marked writer seq store (subst (λ (x : Log). is_marked x seq store ≡ true) is h)
 
 module _ (law : MasterLaws) (w : World) (b : Beside) (number : ℕ) (s : State) (m : Message) (l : Life) where
   abbrev then : State
@@ -260,7 +258,7 @@ module _ (law : MasterLaws) (w : World) (b : Beside) (number : ℕ) (s : State) 
   registered it = subst (λ (n : Note). Heard (view w b) m.to m.stamp.0 n m.from) (how it).says it.heard
 
   goes : Begins → Goes s then
-  goes it = law.message.goes 0 s m (subst (LifeFacts 0) (sym it.was) tt) it.brings
+  goes it = law.message.goes 0 [] s m (subst (LifeFacts 0 []) (sym it.was) refl) it.brings
 
   of_master : (it : Begins) → (registered it).known.entry.master ≡ number
   of_master it = cc (it.to, (registered it).known.master)
@@ -271,8 +269,17 @@ module _ (law : MasterLaws) (w : World) (b : Beside) (number : ℕ) (s : State) 
       let waits : JoinedAs (locks_kept w).writers b s None = subst (JoinedAs (locks_kept w).writers b s) it.was it.master.joined in
       waits writer reg.known.entry reg.known.found (of_master it ∙ sym it.master.named) reg.boot
 
-  no_groups : Begins → l.work.log.groups ≡ []
-  no_groups it = ap (λ (x : Life). x.work.log.groups) (how it).life
+  no_groups : Begins → l.work.log ≡ new_log l.work.log.writer
+  no_groups it = ap (λ (x : Life). x.work.log) (how it).life
+
+  -- Nothing was logged, and nothing is.
+  begun_facts : (it : Begins) → WorkFacts (registered it).known.entry.start.0 (log_by b writer ++ []) l.work
+  begun_facts it =
+      let start : ℕ = (registered it).known.entry.start.0 in
+      let none : log_by b writer ++ [] ≡ [] = append-nil (log_by b writer) ∙ it.all.lives.none writer (no_life it) in
+      subst (λ (gs : List Group). WorkFacts start gs l.work) (sym none)
+      (two (λ o q. LifeFacts start (logged_by o q) q) s.life then.life None (Some l) it.was it.is
+      (law.message.facts start [] s m (subst (LifeFacts start []) (sym it.was) refl) it.brings (subst (λ (o : Option Life). JoinsAfter start o m.stamp.0) (sym it.was) (registered it).start)))
 
   number_is : Begins → l.work.number ≡ number
   number_is it = ap (λ (x : Life). x.work.number) (how it).life ∙ it.master.named
@@ -285,10 +292,8 @@ module _ (law : MasterLaws) (w : World) (b : Beside) (number : ℕ) (s : State) 
         entry = reg.known.entry;
         known = reg.known.found;
         master = of_master it ∙ sym (number_is it);
-        facts = subst (LifeFacts reg.known.entry.start.0) it.is
-            (law.message.facts reg.known.entry.start.0 s m (subst (LifeFacts reg.known.entry.start.0) (sym it.was) tt) it.brings
-            (subst (λ (o : Option Life). JoinsAfter reg.known.entry.start.0 o m.stamp.0) (sym it.was) reg.start));
-        log_kept = ap (λ (gs : List Logged). groups_in gs) (no_groups it) ∙ sym (append-nil (log_by b writer) ∙ it.all.lives.none writer (no_life it));
+        facts = begun_facts it;
+        log_kept = (begun_facts it).of_rest;
         epochs = λ page. by page (two (λ o q. (epoch_in q page ≡ epoch_in o page) ⊎ EpochCame o m page (epoch_in q page)) s.life then.life None (Some l) it.was it.is (law.message.epochs s m page it.brings));
         roster = inl (ap (λ (x : Life). x.roster) (how it).life);
         recovery = subst (RecoveryFact (log_kept w) (end_of w)) (sym (two (λ o q. RecoveryGoes m o q) s.life then.life None (Some l) it.was it.is (law.message.recoveries s m))) tt;
@@ -305,7 +310,7 @@ module _ (law : MasterLaws) (w : World) (b : Beside) (number : ℕ) (s : State) 
       ap (λ (e : WriterEntry). e.boot) one ∙ (reg.boot ∙ sym (goes it).boot)
 
   none_durable : Begins → durable l.work ≡ 0
-  none_durable it = ap (λ (gs : List Logged). durable_seq gs) (no_groups it)
+  none_durable it = ap (λ (x : Log). durable_seq x) (no_groups it)
 
   begun_past : Begins → (v : ℕ) → or_zero (fin.get w.past.hard v) ≡ up_to (end_of w v) (durable_by (fin.get (after w b number then w.past sent l []).lives v))
   begun_past it =
@@ -324,7 +329,7 @@ module _ (law : MasterLaws) (w : World) (b : Beside) (number : ℕ) (s : State) 
     same = number_is it;
     fact = begun_fact it;
     of_boot = begun_boot it;
-    acks = λ store seq marked. absurd (not_marked l.work.log.groups seq store (no_groups it) marked);
+    acks = λ store seq marked. absurd (not_marked l.work.log l.work.log.writer seq store (no_groups it) marked);
     reached = subst (λ (o : Option Life). durable_by o ≤ durable l.work) (sym (no_life it)) (omega arith);
     past = begun_past it;
     closed = refl;
@@ -336,8 +341,7 @@ module _ (law : MasterLaws) (w : World) (b : Beside) (number : ℕ) (s : State) 
       life_holds w b number then w.past sent l [] law.still (begun_move it)
       (life_says (view (world w b number then w.past sent l []) (after w b number then w.past sent l [])) (end_of w) l sent (record {
         start = f.entry.start.0;
-        facts = f.facts;
-        kept = f.log_kept ∙ sym (at_log w b number then w.past sent l []);
+        facts = subst (λ (gs : List Group). WorkFacts f.entry.start.0 gs l.work) (sym (at_log w b number then w.past sent l [])) f.facts;
         most = durable_stands w b number then w.past sent l [] (begun_move it) it.all;
         recovery = f.recovery;
         epochs = f.epochs;
@@ -355,19 +359,19 @@ message_goes : MasterLaws → (w : World) (b : Beside) (number : ℕ) (s : State
     → MasterFact (locks_kept w).writers b (or_zero (fin.get w.boots number)) number s → LogsHold w b
     → (o : Option Life) → s.life ≡ o → (q : Option Life) → (step s m).0.life ≡ q → StepKeeps w b (stays w number (step s m).0 (lived w.past o q) (step s m).1) (with_life b o q)
 message_goes law w b number s m to brings heard told f h None so None sq =
-    let goes : Goes s (step s m).0 = law.message.goes 0 s m (subst (LifeFacts 0) (sym so) tt) brings in
+    let goes : Goes s (step s m).0 = law.message.goes 0 [] s m (subst (LifeFacts 0 []) (sym so) refl) brings in
     waits_on law.still w b number s (step s m).0 w.past (step s m).1 f so sq goes.number goes.boot refl refl (subst (λ (q : Option Life). SentBy (step s m).0 q (step s m).1) sq (law.message.sends s m)) h
 message_goes law w b number s m to brings heard told f h None so (Some l) sq =
     begins_life law w b number s m l (record { to = to; brings = brings; heard = heard; master = f; was = so; is = sq; all = h })
 message_goes law w b number s m to brings heard told f h (Some old) so None sq =
     let fact = old_facts w b number s old f so h in
-    let goes : Goes s (step s m).0 = law.message.goes fact.entry.start.0 s m (subst (LifeFacts fact.entry.start.0) (sym so) fact.facts) brings in
+    let goes : Goes s (step s m).0 = law.message.goes fact.entry.start.0 (log_by b (writer_of old.work)) s m (subst (LifeFacts fact.entry.start.0 (log_by b (writer_of old.work))) (sym so) fact.facts) brings in
     absurd (two JoinedGoes s.life (step s m).0.life (Some old) None so sq goes.life)
 message_goes law w b number s m to brings heard told f h (Some old) so (Some l) sq =
     let fact = old_facts w b number s old f so h in
-    let goes : Goes s (step s m).0 = law.message.goes fact.entry.start.0 s m (subst (LifeFacts fact.entry.start.0) (sym so) fact.facts) brings in
+    let goes : Goes s (step s m).0 = law.message.goes fact.entry.start.0 (log_by b (writer_of old.work)) s m (subst (LifeFacts fact.entry.start.0 (log_by b (writer_of old.work))) (sym so) fact.facts) brings in
     goes_on w b number s (step s m).0 (lived w.past (Some old) (Some l)) (step s m).1 old l law.still
-    (message_stepped law w b number s m old l so sq fact.entry.start.0 fact.facts brings heard told)
+    (message_stepped law w b number s m old l so sq fact.entry.start.0 (log_by b (writer_of old.work)) fact.facts brings heard told)
     (record {
       master = f;
       was = so;
@@ -411,22 +415,22 @@ command_goes : MasterLaws → (w : World) (b : Beside) (number : ℕ) (s : State
     → StepKeeps w b (stays w number (on_command s session asked).0 (commanded w.past o q session asked (said s session asked)) (on_command s session asked).2) (with_life b o q)
 command_goes law w b number s session asked f h None so None sq =
     let new = (on_command s session asked).0 in
-    let goes : Goes s new = law.command.goes 0 s session asked (subst (LifeFacts 0) (sym so) tt) in
+    let goes : Goes s new = law.command.goes 0 [] s session asked (subst (LifeFacts 0 []) (sym so) refl) in
     waits_on law.still w b number s new (commanded w.past None None session asked (said s session asked)) (on_command s session asked).2 f so sq goes.number goes.boot refl refl
     (subst (λ (q : Option Life). SentBy new q (on_command s session asked).2) sq (law.command.sends s session asked)) h
 command_goes law w b number s session asked f h None so (Some l) sq = absurd (cc (sym (law.command.waits s session asked so) ∙ sq))
 command_goes law w b number s session asked f h (Some old) so None sq =
     let fact = old_facts w b number s old f so h in
-    let goes : Goes s (on_command s session asked).0 = law.command.goes fact.entry.start.0 s session asked (subst (LifeFacts fact.entry.start.0) (sym so) fact.facts) in
+    let goes : Goes s (on_command s session asked).0 = law.command.goes fact.entry.start.0 (log_by b (writer_of old.work)) s session asked (subst (LifeFacts fact.entry.start.0 (log_by b (writer_of old.work))) (sym so) fact.facts) in
     absurd (two JoinedGoes s.life (on_command s session asked).0.life (Some old) None so sq goes.life)
 command_goes law w b number s session asked f h (Some old) so (Some l) sq =
     let new = (on_command s session asked).0 in
     let fact = old_facts w b number s old f so h in
-    let goes : Goes s new = law.command.goes fact.entry.start.0 s session asked (subst (LifeFacts fact.entry.start.0) (sym so) fact.facts) in
+    let goes : Goes s new = law.command.goes fact.entry.start.0 (log_by b (writer_of old.work)) s session asked (subst (LifeFacts fact.entry.start.0 (log_by b (writer_of old.work))) (sym so) fact.facts) in
     let q = read_in_life w.past (Some old) session asked (said s session asked) in
     let same = read_same w.past (Some old) session asked (said s session asked) in
     goes_on w b number s new (commanded w.past (Some old) (Some l) session asked (said s session asked)) (on_command s session asked).2 old l law.still
-    (command_stepped law w s session asked old l so sq fact.entry.start.0 fact.facts)
+    (command_stepped law w s session asked old l so sq fact.entry.start.0 (log_by b (writer_of old.work)) fact.facts)
     (record {
       master = f;
       was = so;
@@ -468,7 +472,6 @@ tick_says law w b number s f h (Some l) so =
     life_says (view w b) (end_of w) l (tick s) (record {
       start = fact.entry.start.0;
       facts = fact.facts;
-      kept = fact.log_kept;
       most = stands w b l joined.last h;
       recovery = fact.recovery;
       epochs = fact.epochs;

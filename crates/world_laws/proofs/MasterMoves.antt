@@ -12,11 +12,12 @@ use Rattle.lock_model.specs.declared.writer.WriterEntry.{WriterEntry}
 use Rattle.lock_model.specs.State.{at}
 use Rattle.lock_model.specs.Runs.{LogEnd}
 use Rattle.log_writer.specs.Log.{is_marked}
+use Rattle.master_model.specs.Causes.{is_noted}
 use Rattle.master_model.specs.State.{Life, State, durable, writer_of}
 use Rattle.store_model.specs.LogState.{LogStoreState, log_of}
 use Rattle.store_model.specs.LogGoes.{AreLonger, IsFront}
 use Rattle.world_model.specs.World.{World, Past, or_zero}
-use Rattle.world_laws.specs.Beside.{Beside, acked_by, durable_by, log_by, logged_by, or_none, up_to}
+use Rattle.world_laws.specs.Beside.{Beside, acked_by, durable_by, log_by, or_none, up_to}
 use Rattle.world_laws.specs.Invariant.{LogsHold, StepKeeps}
 use Rattle.world_laws.specs.Kept.{end_of, hard, locks_kept, log_kept}
 use Rattle.world_laws.specs.Lives.{EndFact, JoinedAs, JoinedFact, LifeFact, LivesHold, MasterFact}
@@ -70,7 +71,7 @@ module _ (w : World) (b : Beside) (number : ℕ) (new : State) (p : Past) (messa
     pub same : l.work.number ≡ number
     pub fact : LifeFact (locks_kept w) (log_kept w) (end_of w) log writer l
     pub of_boot : fact.entry.boot ≡ new.boot
-    pub acks : (store seq : ℕ) → is_marked l.work.log.groups seq store ≡ true → seq ≤ length (log_of (log_kept w store) writer).groups
+    pub acks : (store seq : ℕ) → is_marked l.work.log seq store ≡ true → seq ≤ length (log_of (log_kept w store) writer).groups
     pub reached : durable_by (fin.get b.lives writer) ≤ durable l.work
     pub past : (v : ℕ) → or_zero (fin.get p.hard v) ≡ up_to (end_of w v) (durable_by (fin.get after.lives v))
     pub closed : p.ended ≡ w.past.ended
@@ -109,8 +110,8 @@ module _ (w : World) (b : Beside) (number : ℕ) (new : State) (p : Past) (messa
   acked : LifeMove → (store : ℕ) → StoreHolds w b store → (v seq : ℕ) → acked_by after store v seq ≡ true → seq ≤ length (log_of (log_kept w store) v).groups
   acked move store h =
       each_number (λ (v : ℕ). (seq : ℕ) → acked_by after store v seq ≡ true → seq ≤ length (log_of (log_kept w store) v).groups) writer
-      (λ seq is. move.acks store seq (subst (λ (o : Option Life). is_marked (logged_by o) seq store ≡ true) at_life is))
-      (λ v apart seq is. h.disk.acks v seq (subst (λ (o : Option Life). is_marked (logged_by o) seq store ≡ true) (other_life v apart) is))
+      (λ seq is. move.acks store seq (subst (λ (o : Option Life). is_noted o seq store ≡ true) at_life is))
+      (λ v apart seq is. h.disk.acks v seq (subst (λ (o : Option Life). is_noted o seq store ≡ true) (other_life v apart) is))
 
   runs_on : StillLaws → LifeMove → (s : LogStoreState) (o : Option LogStoreState) → RunsBy (log_by b) (hard w b) s o → RunsBy (log_by after) (hard world after) s o
   runs_on law move s None h = tt
@@ -196,7 +197,7 @@ module _ (w : World) (b : Beside) (number : ℕ) (new : State) (p : Past) (messa
       let old = h.lives.ends writer end is in
       let sealed = (h.stores end.store).disk.ended writer end is refl in
       let held : durable l.work ≤ length (log_of (log_kept w end.store) writer).groups =
-      within (length (log_of (log_kept w end.store) writer).groups) (durable l.work) (λ one. move.acks end.store (durable l.work) (durable_marked l.work.log.groups end.store old.store one)) in
+      within (length (log_of (log_kept w end.store) writer).groups) (durable l.work) (λ one. move.acks end.store (durable l.work) (durable_marked l.work.log end.store old.store one)) in
       subst (λ (o : Option Life). EndFact (durable_by o) end) (sym at_life) (record { least = subst (λ (n : ℕ). durable l.work ≤ n) sealed.long held; store = old.store }))
       (λ v apart end is. subst (λ (o : Option Life). EndFact (durable_by o) end) (sym (other_life v apart)) (h.lives.ends v end is))
 

@@ -1,5 +1,5 @@
 -- A message to a master, a command and a tick keep the invariant.
-use Rattle.std.proofs.Common.{◌≡◌, ◌≤◌, ◌⊎◌, ℕ, true, nat_lt, List, [], ◌∷◌, ◌++◌, length, drop, map, Option, Some, None, inl, inr, refl, sym, subst, ap, ◌∙◌}
+use Rattle.std.proofs.Common.{◌≡◌, ◌≤◌, ◌⊎◌, ℕ, true, nat_lt, List, ◌++◌, length, Option, Some, None, inl, inr, refl, sym, subst, ap, ◌∙◌}
 use Rattle.std.specs.Ordering.{nat_cmp}
 use Rattle.std.specs.FinMap.{FinMap}
 use Rattle.std.specs.FinMap as fin
@@ -14,8 +14,8 @@ use Rattle.lock_model.specs.declared.writer.WriterEntry.{WriterEntry}
 use Rattle.lock_model.specs.State.{at, page_in}
 use Rattle.lock_model.specs.Runs.{LogEnd, ended_at}
 use Rattle.log_writer.specs.Log.{is_marked}
-use Rattle.log_writer.specs.declared.logged.Logged.{Logged}
-use Rattle.master_model.specs.Facts.{WorkFacts, groups_of}
+use Rattle.master_model.specs.Causes.{is_noted}
+use Rattle.master_model.specs.Facts.{WorkFacts}
 use Rattle.master_model.specs.Goes.{LifeGoes}
 use Rattle.master_model.specs.Recovery.{writer_named}
 use Rattle.master_model.specs.Stages.{RecoveryBy, StageBy, StagesSaid}
@@ -24,9 +24,9 @@ use Rattle.master_model.specs.declared.recovery.Stage.{Stage}
 use Rattle.master_model.specs.declared.recovery.Stage.TheVariants.{Seal, Close, Scan, Take, Undo}
 use Rattle.master_model.specs.State.{Life, Recovery, State, durable, writer_of}
 use Rattle.store_model.specs.LogState.{log_of}
-use Rattle.world_model.specs.Past.{group_of, logged}
+use Rattle.world_model.specs.Past.{logged}
 use Rattle.world_model.specs.World.{World, Past, or_zero}
-use Rattle.world_laws.specs.Beside.{Beside, durable_by, log_by, logged_by, up_to}
+use Rattle.world_laws.specs.Beside.{Beside, durable_by, log_by, up_to}
 use Rattle.world_laws.specs.Invariant.{LogsHold, StepKeeps}
 use Rattle.world_laws.specs.Kept.{end_of, locks_kept, log_kept}
 use Rattle.world_laws.specs.Lives.{JoinedAs, JoinedFact, LifeFact, MasterFact, RecoveryFact, RosterKept, RosterTold, StageFact}
@@ -66,26 +66,13 @@ recovery_by v from to stamp n (Some old) (Some new) (inl same) heard f = subst (
 recovery_by v from to stamp n (Some old) (Some new) (inr moves) heard f =
     subst (λ (k : ℕ). StageFact v.stores (ends_in v k) k new.stage) (sym moves.writer) (stage_by v from to stamp n old new old.stage new.stage moves.stage heard f)
 
--- ---- the log
-
-drop_front : (xs : List Logged) (more : List Group) → drop (length xs) (map group_of xs ++ more) ≡ more
-drop_front [] more = refl
-drop_front (x ∷ xs) more = drop_front xs more
-
--- What a step logs is what the life's log has more.
-log_grows : (old new : Life) (log : List Group) → LifeGoes old new → groups_of old.work.log ≡ log → groups_of new.work.log ≡ log ++ logged old.work new.work
-log_grows old new log goes kept =
-    let grown = goes.work_goes.log_goes.groups in
-    let more : logged old.work new.work ≡ grown.0 = ap (λ (gs : List Group). drop (length old.work.log.groups) gs) grown.1 ∙ drop_front old.work.log.groups grown.0 in
-    grown.1 ∙ (ap (λ (gs : List Group). gs ++ grown.0) kept ∙ ap (λ (gs : List Group). log ++ gs) (sym more))
-
 -- ---- a life goes on
 
 -- What a step does to a life, by the laws of a master and by what it heard.
 pub record Stepped (w : World) (old new : Life) (messages : List Message) : Type 0 where
   pub goes : LifeGoes old new
-  pub facts : (start : ℕ) → WorkFacts start old.work → WorkFacts start new.work
-  pub marks : (seq store : ℕ) → is_marked new.work.log.groups seq store ≡ true → (is_marked old.work.log.groups seq store ≡ true) ⊎ (seq ≤ length (log_of (log_kept w store) (writer_of new.work)).groups)
+  pub facts : (start : ℕ) (gs : List Group) → WorkFacts start gs old.work → WorkFacts start (gs ++ logged old.work new.work) new.work
+  pub marks : (seq store : ℕ) → is_marked new.work.log seq store ≡ true → (is_marked old.work.log seq store ≡ true) ⊎ (seq ≤ length (log_of (log_kept w store) (writer_of new.work)).groups)
   pub recovery : RecoveryFact (log_kept w) (end_of w) old.recovery → RecoveryFact (log_kept w) (end_of w) new.recovery
   pub epochs : (page : ℕ) → ((lease_of new.work.leases page).epoch ≡ (lease_of old.work.leases page).epoch) ⊎ ((lease_of new.work.leases page).epoch ≤ (page_in (locks_kept w) page).epoch)
   pub roster : (new.roster ≡ old.roster) ⊎ RosterTold (locks_kept w) new.roster
@@ -124,13 +111,14 @@ module _ (w : World) (b : Beside) (number : ℕ) (s new : State) (p : Past) (mes
   life_fact : Stepped w old l messages → Keeps w b number s new p old l → LogsHold w b → LifeFact (locks_kept w) (log_kept w) (end_of w) (log_by b writer ++ more) writer l
   life_fact step keeps h =
       let f = old_fact step keeps h in
+      let facts = step.facts f.entry.start.0 (log_by b writer) f.facts in
       record {
         named = refl;
         entry = f.entry;
         known = f.known;
         master = f.master ∙ sym step.goes.work_goes.number;
-        facts = step.facts f.entry.start.0 f.facts;
-        log_kept = log_grows old l (log_by b writer) step.goes f.log_kept;
+        facts = facts;
+        log_kept = facts.of_rest;
         epochs = λ page. by page (step.epochs page) (f.epochs page);
         recovery = step.recovery f.recovery;
         roster = by_roster step.roster f.roster;
@@ -179,8 +167,8 @@ module _ (w : World) (b : Beside) (number : ℕ) (s new : State) (p : Past) (mes
     closed = keeps.ended;
   }
     where
-      by : (store seq : ℕ) → (is_marked old.work.log.groups seq store ≡ true) ⊎ (seq ≤ length (log_of (log_kept w store) writer).groups) → seq ≤ length (log_of (log_kept w store) writer).groups
-      by store seq (inl marked) = (h.stores store).disk.acks writer seq (subst (λ (o : Option Life). is_marked (logged_by o) seq store ≡ true) (sym (last step keeps)) marked)
+      by : (store seq : ℕ) → (is_marked old.work.log seq store ≡ true) ⊎ (seq ≤ length (log_of (log_kept w store) writer).groups) → seq ≤ length (log_of (log_kept w store) writer).groups
+      by store seq (inl marked) = (h.stores store).disk.acks writer seq (subst (λ (o : Option Life). is_noted o seq store ≡ true) (sym (last step keeps)) marked)
       by store seq (inr held) = held
 
   speaks : (step : Stepped w old l messages) (keeps : Keeps w b number s new p old l) (h : LogsHold w b)
@@ -189,8 +177,7 @@ module _ (w : World) (b : Beside) (number : ℕ) (s new : State) (p : Past) (mes
       let f = life_fact step keeps h in
       record {
         start = f.entry.start.0;
-        facts = f.facts;
-        kept = f.log_kept ∙ sym (at_log w b number new p messages l more);
+        facts = subst (λ (gs : List Group). WorkFacts f.entry.start.0 gs l.work) (sym (at_log w b number new p messages l more)) f.facts;
         most = durable_stands w b number new p messages l more (move step keeps h) h;
         recovery = f.recovery;
         epochs = f.epochs;

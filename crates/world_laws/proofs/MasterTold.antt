@@ -1,6 +1,7 @@
 -- What a master's messages say, and what it hears.
-use Rattle.std.proofs.Common.{◌≡◌, ◌≤◌, ◌<◌, ◌+◌, ◌-◌, ℕ, zero, suc, Bool, true, false, cond, nat_eq, List, [], ◌∷◌, length, slice_get, Option, Some, None, refl, sym, subst, ap, ◌∙◌, arith}
+use Rattle.std.proofs.Common.{◌≡◌, ◌≤◌, ◌<◌, ◌+◌, ◌-◌, ℕ, zero, suc, Bool, true, false, cond, nat_eq, List, [], ◌∷◌, drop, length, slice_get, Option, Some, None, refl, sym, subst, ap, ◌∙◌, arith}
 use Rattle.std.proofs.lemmas.Bool.Decides.{nat_tests}
+use Rattle.std.proofs.lemmas.List.Elements.{Contains-append_right}
 use Rattle.std.specs.List.{AllByRecursion, Contains}
 use Rattle.std.specs.Prelude.{slice_index_or}
 use Rattle.tm_data.specs.declared.log.Group.{Group}
@@ -57,17 +58,27 @@ appended_there gs g k number there = by (nat_eq g.seq 0) refl
 -- What is so of a life, where it says something.
 pub record Speaks (v : View) (ends : ℕ → Option LogEnd) (l : Life) : Type 0 where
   pub start : ℕ
-  pub facts : WorkFacts start l.work
-  pub kept : groups_of l.work.log ≡ v.logs (writer_of l.work)
+  pub facts : WorkFacts start (v.logs (writer_of l.work)) l.work
   pub most : durable l.work ≤ v.most (writer_of l.work)
   pub recovery : RecoveryFact v.stores ends l.recovery
   pub epochs : (page : ℕ) → (lease_of l.work.leases page).epoch ≤ (page_in v.of_locks page).epoch
 
+-- What is among the last groups is among all.
+contains_behind : (n : ℕ) (gs : List Group) (g : Group) → Contains (drop n gs) g → Contains gs g
+contains_behind zero gs g h = h
+contains_behind (suc n) [] g h = h
+contains_behind (suc n) (x ∷ gs) g h = Contains-append_right (x ∷ []) gs g (contains_behind n gs g h)
+
 appended_says : (v : View) (ends : ℕ → Option LogEnd) (l : Life) (g : Group) → Speaks v ends l → Contains (groups_of l.work.log) g → numbered (v.logs g.writer.0) g.seq ≡ Some g
-appended_says v ends l g s (k, low, is) =
-    let place = in_place (writer_of l.work) 1 s.start l.work.clock.scalar (groups_of l.work.log) g k s.facts.of_log.groups low is in
-    subst (λ (writer : ℕ). numbered (v.logs writer) g.seq ≡ Some g) (sym place.of)
-    (subst (λ (gs : List Group). numbered gs g.seq ≡ Some g) s.kept (appended_there (groups_of l.work.log) g k place.at_seq place.there))
+appended_says v ends l g s there = by (contains_behind l.work.log.gone gs g (subst (λ (xs : List Group). Contains xs g) s.facts.of_rest.rest there))
+  where
+    gs : List Group
+    gs = v.logs (writer_of l.work)
+
+    by : Contains gs g → numbered (v.logs g.writer.0) g.seq ≡ Some g
+    by (k, low, is) =
+        let place = in_place (writer_of l.work) 1 s.start l.work.clock.scalar gs g k s.facts.of_log.groups low is in
+        subst (λ (writer : ℕ). numbered (v.logs writer) g.seq ≡ Some g) (sym place.of) (appended_there gs g k place.at_seq place.there)
 
 close_says : (v : View) (ends : ℕ → Option LogEnd) (l : Life) (writer store most : ℕ) → Speaks v ends l → (r : Recovery) → l.recovery ≡ Some r → r.writer ≡ writer → r.stage ≡ Close store most
     → IsOneOfThree store × IsSealedWith (log_of (v.stores store) writer) most

@@ -71,30 +71,30 @@ number_ended p writer number = by (is_closed p writer)
     by true = refl
     by false = refl
 
-settled_hard : (p : Past) (new : Work) (old : ℕ) (c : Bool) → (settled_if p new old c).hard ≡ hard_after p.hard c (sets.contains p.ended new.log.writer) new.log.writer.0 (durable new)
-settled_hard p new old false = refl
-settled_hard p new old true =
-    let steps = settles p (ends_between new.log.groups old (durable new)) in
+settled_hard : (p : Past) (old new : Work) (c : Bool) → (settled_if p old new c).hard ≡ hard_after p.hard c (sets.contains p.ended new.log.writer) new.log.writer.0 (durable new)
+settled_hard p old new false = refl
+settled_hard p old new true =
+    let steps = settles p (ends_between old.log (durable old) (durable new)) in
     number_hard (machine_steps p steps) new.log.writer (durable new)
     ∙ (ap (λ (hs : FinMap nat_cmp ℕ). hard_after hs true (is_closed (machine_steps p steps) new.log.writer) new.log.writer.0 (durable new)) (steps_hard p steps)
     ∙ ap (λ (ws : FinSet writer_cmp). hard_after p.hard true (sets.contains ws new.log.writer) new.log.writer.0 (durable new)) (steps_ended p steps))
 
-settled_ended : (p : Past) (new : Work) (old : ℕ) (c : Bool) → (settled_if p new old c).ended ≡ p.ended
-settled_ended p new old false = refl
-settled_ended p new old true =
-    let steps = settles p (ends_between new.log.groups old (durable new)) in
+settled_ended : (p : Past) (old new : Work) (c : Bool) → (settled_if p old new c).ended ≡ p.ended
+settled_ended p old new false = refl
+settled_ended p old new true =
+    let steps = settles p (ends_between old.log (durable old) (durable new)) in
     number_ended (machine_steps p steps) new.log.writer (durable new) ∙ steps_ended p steps
 
 pub worked_hard : (p : Past) (old new : Work) → (worked p old new).hard ≡ hard_after p.hard (nat_lt (durable old) (durable new)) (sets.contains p.ended new.log.writer) new.log.writer.0 (durable new)
 worked_hard p old new =
     let q = with_events p new.log.writer (events_in (logged old new)) in
-    settled_hard q new (durable old) (nat_lt (durable old) (durable new))
+    settled_hard q old new (nat_lt (durable old) (durable new))
     ∙ (ap (λ (hs : FinMap nat_cmp ℕ). hard_after hs (nat_lt (durable old) (durable new)) (sets.contains q.ended new.log.writer) new.log.writer.0 (durable new)) (events_hard p new.log.writer (events_in (logged old new)))
     ∙ ap (λ (ws : FinSet writer_cmp). hard_after p.hard (nat_lt (durable old) (durable new)) (sets.contains ws new.log.writer) new.log.writer.0 (durable new)) (events_ended p new.log.writer (events_in (logged old new))))
 
 pub worked_ended : (p : Past) (old new : Work) → (worked p old new).ended ≡ p.ended
 worked_ended p old new =
-    settled_ended (with_events p new.log.writer (events_in (logged old new))) new (durable old) (nat_lt (durable old) (durable new))
+    settled_ended (with_events p new.log.writer (events_in (logged old new))) old new (nat_lt (durable old) (durable new))
     ∙ events_ended p new.log.writer (events_in (logged old new))
 
 -- ---- a read is no matter

@@ -16,7 +16,7 @@ use Rattle.format_laws.specs.Kept.{LifeIsSpelled}
 use Rattle.format_laws.specs.Spelled.{AllSpelled, GroupsAreSpelled, IsSpelled, IsStamp, NoteIsSpelled}
 use Rattle.lock_model.specs.State as locks
 use Rattle.lock_model.specs.Told as lock_told
-use Rattle.master_model.specs.Facts.{BringsNote, Facts, GroupBrought, JoinsAfter, LifeFacts, WorkFacts, groups_of}
+use Rattle.master_model.specs.Facts.{BringsNote, Facts, GroupBrought, JoinsAfter, LifeFacts, WorkFacts}
 use Rattle.master_model.specs.State as master
 use Rattle.master_model.specs.State.{Life, Work, writer_of}
 use Rattle.replica_model.specs.State as replica
@@ -144,22 +144,24 @@ beside_nodes w boots lives p h = record { sent = h.sent; journal = h.journal; ma
 
 pub record HasFacts (s : master.State) : Type 0 where
   pub begun : ℕ
-  pub facts : Facts begun s
+  pub groups : List Group
+  pub facts : Facts begun groups s
   pub after : (stamp : ℕ) → JoinsAfter begun s.life stamp
 
 pub facts_of : (w : World) (b : Beside) (number : ℕ) (s : master.State) → LogsHold w b → fin.get w.master number ≡ Some s → HasFacts s
 facts_of w b number s h is = by s.life refl (h.lives.masters number s is).joined
   where
     by : (o : Option Life) → s.life ≡ o → JoinedAs (locks_kept w).writers b s o → HasFacts s
-    by None at j = record { begun = 0; facts = subst (LifeFacts 0) (sym at) tt; after = λ stamp. subst (λ (o : Option Life). JoinsAfter 0 o stamp) (sym at) (omega arith) }
+    by None at j = record { begun = 0; groups = []; facts = subst (LifeFacts 0 []) (sym at) refl; after = λ stamp. subst (λ (o : Option Life). JoinsAfter 0 o stamp) (sym at) (omega arith) }
     by (Some l) at j =
         let f = h.lives.lives (writer_of l.work) l j.last in
-        record { begun = f.entry.start.0; facts = subst (LifeFacts f.entry.start.0) (sym at) f.facts; after = λ stamp. subst (λ (o : Option Life). JoinsAfter f.entry.start.0 o stamp) (sym at) tt }
+        let gs : List Group = log_by b (writer_of l.work) in
+        record { begun = f.entry.start.0; groups = gs; facts = subst (LifeFacts f.entry.start.0 gs) (sym at) f.facts; after = λ stamp. subst (λ (o : Option Life). JoinsAfter f.entry.start.0 o stamp) (sym at) tt }
 
 -- ---- groups
 
 abbrev pub LogLaw : Type 0
-LogLaw = (begun : ℕ) (w : Work) → WorkFacts begun w → AllByRecursion GroupBrought (groups_of w.log)
+LogLaw = (begun : ℕ) (groups : List Group) (w : Work) → WorkFacts begun groups w → AllByRecursion GroupBrought groups
 
 log_brought : LogLaw → (w : World) (b : Beside) (writer : ℕ) → LogsHold w b → AllByRecursion GroupBrought (log_by b writer)
 log_brought law w b writer h = by (fin.get b.lives writer) refl
@@ -167,8 +169,7 @@ log_brought law w b writer h = by (fin.get b.lives writer) refl
     by : (o : Option Life) → fin.get b.lives writer ≡ o → AllByRecursion GroupBrought (log_by b writer)
     by None is = subst (λ (gs : List Group). AllByRecursion GroupBrought gs) (sym (h.lives.none writer is)) tt
     by (Some l) is =
-        let f = h.lives.lives writer l is in
-        subst (λ (gs : List Group). AllByRecursion GroupBrought gs) f.log_kept (law f.entry.start.0 l.work f.facts)
+        let f = h.lives.lives writer l is in law f.entry.start.0 (log_by b writer) l.work f.facts
 
 one_brought : (gs : List Group) (seq : ℕ) (g : Group) → AllByRecursion GroupBrought gs → numbered gs seq ≡ Some g → GroupBrought g
 one_brought gs seq g h is = by (nat_eq seq 0) is

@@ -7,6 +7,7 @@ use Rattle.std.specs.declared.result.Result.{Result}
 use Rattle.tm_data.specs.declared.image.Image.{Image}
 use Rattle.tm_data.specs.declared.transaction.Page.{Page}
 use Rattle.tm_data.specs.declared.vector.VectorEntry.{VectorEntry}
+use Rattle.tm_data.specs.declared.log.Group.{Group}
 use Rattle.tm_base.specs.declared.command.Command.{Command}
 use Rattle.tm_base.specs.declared.message.Message.{Message}
 use Rattle.tm_base.specs.declared.message.Node.{Node}
@@ -19,7 +20,7 @@ use Rattle.lock_model.specs.Facts as lock_facts
 use Rattle.lock_model.specs.Runs.{after}
 use Rattle.lock_model.specs.State as locks
 use Rattle.lock_model.specs.Step as lock_step
-use Rattle.master_model.specs.Facts.{Brings, Facts, JoinsAfter}
+use Rattle.master_model.specs.Facts.{Brings, Facts, JoinsAfter, logged_by}
 use Rattle.master_model.specs.Stages.{StagesAreSaid}
 use Rattle.master_model.specs.State as master
 use Rattle.master_model.specs.Step as master_step
@@ -63,17 +64,17 @@ pub record LockLaws : Type 0 where
 
 pub record MasterLaws : Type 0 where
   pub log : LogLaw
-  pub facts : (begun : ℕ) (s : master.State) (m : Message) → Facts begun s → Brings m → JoinsAfter begun s.life m.stamp.0 → Facts begun (master_step.step s m).0
-  pub facts_commanded : (begun : ℕ) (s : master.State) (session : ℕ) (asked : Command) → Facts begun s → Facts begun (master_step.on_command s session asked).0
+  pub facts : (begun : ℕ) (groups : List Group) (s : master.State) (m : Message) → Facts begun groups s → Brings m → JoinsAfter begun s.life m.stamp.0 → Facts begun (groups ++ logged_by s.life (master_step.step s m).0.life) (master_step.step s m).0
+  pub facts_commanded : (begun : ℕ) (groups : List Group) (s : master.State) (session : ℕ) (asked : Command) → Facts begun groups s → Facts begun (groups ++ logged_by s.life (master_step.on_command s session asked).0.life) (master_step.on_command s session asked).0
   pub says : (s : master.State) (m : Message) → Sent (master_step.step s m).0 (master_step.step s m).1
   pub says_commanded : (s : master.State) (session : ℕ) (asked : Command) → Sent (master_step.on_command s session asked).0 (master_step.on_command s session asked).2
   pub says_ticked : (s : master.State) → Sent s (master_step.tick s)
   pub stages : (s : master.State) (m : Message) → StagesAreSaid (master_step.step s m).0.life (master_step.step s m).1
   pub stages_commanded : (s : master.State) (session : ℕ) (asked : Command) → StagesAreSaid (master_step.on_command s session asked).0.life (master_step.on_command s session asked).2
   pub stages_ticked : (s : master.State) → StagesAreSaid s.life (master_step.tick s)
-  pub keeps : (begun : ℕ) (s : master.State) (m : Message) → Facts begun s → Brings m → LifeIsSpelled s.life → LifeIsSpelled (master_step.step s m).0.life
-  pub keeps_commanded : (begun : ℕ) (s : master.State) (session : ℕ) (asked : Command) → Facts begun s → LifeIsSpelled s.life → LifeIsSpelled (master_step.on_command s session asked).0.life
-  pub sends : (begun : ℕ) (s : master.State) (messages : List Message) → Facts begun s → LifeIsSpelled s.life → Sent s messages → StagesAreSaid s.life messages → AllSpelled messages
+  pub keeps : (begun : ℕ) (groups : List Group) (s : master.State) (m : Message) → Facts begun groups s → Brings m → LifeIsSpelled s.life → LifeIsSpelled (master_step.step s m).0.life
+  pub keeps_commanded : (begun : ℕ) (groups : List Group) (s : master.State) (session : ℕ) (asked : Command) → Facts begun groups s → LifeIsSpelled s.life → LifeIsSpelled (master_step.on_command s session asked).0.life
+  pub sends : (begun : ℕ) (groups : List Group) (s : master.State) (messages : List Message) → Facts begun groups s → LifeIsSpelled s.life → Sent s messages → StagesAreSaid s.life messages → AllSpelled messages
 
 pub record StoreLaws : Type 0 where
   pub of_log_step : (s : LogStoreState) (m : Message) → IsStamp s.scalar → IsSpelled m → KeepsSpelled (log_step.stepped s m).0.scalar (log_step.stepped s m).1
@@ -102,10 +103,10 @@ master_delivered law w b number m (Some s) is h k brings =
     let f : HasFacts s = facts_of w b number s h is in
     let new = (master_step.step s m).0 in
     let messages = (master_step.step s m).1 in
-    let still : LifeIsSpelled new.life = law.keeps f.begun s m f.facts brings (k.masters number s is) in
+    let still : LifeIsSpelled new.life = law.keeps f.begun f.groups s m f.facts brings (k.masters number s is) in
     let past : Past = lived w.past s.life new.life in
     shown (record w { master = fin.insert w.master number new; past = past }) outcome.Fine messages (with_master w number new past k still)
-    (law.sends f.begun new messages (law.facts f.begun s m f.facts brings (f.after m.stamp.0)) still (law.says s m) (law.stages s m))
+    (law.sends f.begun (f.groups ++ logged_by s.life new.life) new messages (law.facts f.begun f.groups s m f.facts brings (f.after m.stamp.0)) still (law.says s m) (law.stages s m))
 
 commanded_spelled : MasterLaws → (w : World) (b : Beside) (number session : ℕ) (asked : Command) (o : Option master.State) → fin.get w.master number ≡ o → LogsHold w b → SpelledHolds w
     → SpelledHolds (commands_some w number session asked o).world
@@ -115,10 +116,10 @@ commanded_spelled law w b number session asked (Some s) is h k =
     let new = (master_step.on_command s session asked).0 in
     let said = (master_step.on_command s session asked).1 in
     let messages = (master_step.on_command s session asked).2 in
-    let still : LifeIsSpelled new.life = law.keeps_commanded f.begun s session asked f.facts (k.masters number s is) in
+    let still : LifeIsSpelled new.life = law.keeps_commanded f.begun f.groups s session asked f.facts (k.masters number s is) in
     let past : Past = commanded w.past s.life new.life session asked said in
     shown (record w { master = fin.insert w.master number new; past = past }) (outcome.Reply number session said) messages (with_master w number new past k still)
-    (law.sends f.begun new messages (law.facts_commanded f.begun s session asked f.facts) still (law.says_commanded s session asked) (law.stages_commanded s session asked))
+    (law.sends f.begun (f.groups ++ logged_by s.life new.life) new messages (law.facts_commanded f.begun f.groups s session asked f.facts) still (law.says_commanded s session asked) (law.stages_commanded s session asked))
 
 -- ---- the lock manager
 
@@ -380,7 +381,7 @@ master_ticked : MasterLaws → (w : World) (b : Beside) (number : ℕ) (o : Opti
 master_ticked law w b number None is h k = shown w (outcome.Down (Master number)) [] k tt
 master_ticked law w b number (Some s) is h k =
     let f : HasFacts s = facts_of w b number s h is in
-    shown w outcome.Fine (master_step.tick s) k (law.sends f.begun s (master_step.tick s) f.facts (k.masters number s is) (law.says_ticked s) (law.stages_ticked s))
+    shown w outcome.Fine (master_step.tick s) k (law.sends f.begun f.groups s (master_step.tick s) f.facts (k.masters number s is) (law.says_ticked s) (law.stages_ticked s))
 
 lock_ticked : (w : World) (o : Option locks.State) → SpelledHolds w → SpelledHolds (lock_ticks w o).world
 lock_ticked w None k = shown w (outcome.Down LockManager) [] k tt

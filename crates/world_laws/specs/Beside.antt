@@ -12,8 +12,7 @@ use Rattle.tm_base.specs.declared.message.Node.TheVariants.{Master}
 use Rattle.tm_base.specs.declared.step.Step.{Step}
 use Rattle.tm_base.specs.declared.step.Step.TheVariants as step
 use Rattle.lock_model.specs.Runs.{LogEnd}
-use Rattle.log_writer.specs.Log.{is_marked}
-use Rattle.log_writer.specs.declared.logged.Logged.{Logged}
+use Rattle.master_model.specs.Causes.{is_noted}
 use Rattle.master_model.specs.State.{Life, State, durable, writer_of}
 use Rattle.world_model.specs.Past.{logged}
 use Rattle.world_model.specs.World.{World}
@@ -87,13 +86,9 @@ after_steps b w (s ∷ ss) = after_steps (after_step b w s) (world_step w s).wor
 
 -- ---- what it says of a writer
 
-abbrev pub logged_by : Option Life → List Logged
-logged_by None = []
-logged_by (Some l) = l.work.log.groups
-
 -- Whether the writer's master was told that a log store has the group of a number.
 abbrev pub acked_by : Beside → ℕ → ℕ → ℕ → Bool
-acked_by b store writer seq = is_marked (logged_by (fin.get b.lives writer)) seq store
+acked_by b store writer seq = is_noted (fin.get b.lives writer) seq store
 
 -- The greatest durable number that the writer's master reached.
 abbrev pub durable_by : Option Life → ℕ

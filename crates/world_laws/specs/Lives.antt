@@ -21,7 +21,7 @@ use Rattle.store_model.specs.LogState.{LogStoreState, log_of}
 use Rattle.store_model.specs.LogFacts.{IsSealedWith}
 use Rattle.master_model.specs.declared.recovery.Stage.{Stage}
 use Rattle.master_model.specs.declared.recovery.Stage.TheVariants as stage
-use Rattle.master_model.specs.Facts.{WorkFacts, groups_of}
+use Rattle.master_model.specs.Facts.{IsRestOf, WorkFacts}
 use Rattle.master_model.specs.State.{Life, Recovery, State, writer_of}
 use Rattle.world_model.specs.World.{World, or_zero}
 use Rattle.world_laws.specs.Beside.{Beside, durable_by, log_by}
@@ -56,9 +56,10 @@ RecoveryFact stores ends (Some r) = StageFact stores (ends r.writer) r.writer r.
 
 -- ---- lives
 
--- The life's own log has all groups that it ever logged, with all that is in them.
+-- The life's own log is what is left of all groups that it ever logged: it has those that it hasn't let go, with all that
+-- is in them.
 abbrev pub KeepsOf : Life → List Group → Type 0
-KeepsOf l groups = groups_of l.work.log ≡ groups
+KeepsOf l groups = IsRestOf groups l.work.log
 
 -- The roster that a life keeps is one that the lock manager has told, or it has none.
 pub record RosterTold (of_locks : locks.State) (entries : List RosterEntry) : Type 0 where
@@ -70,13 +71,14 @@ abbrev pub RosterKept : locks.State → List RosterEntry → Type 0
 RosterKept of_locks entries = (entries ≡ []) ⊎ RosterTold of_locks entries
 
 -- A life that joined as a writer: the lock manager knows the writer, which is this master's, and the life has the facts of
--- one that began at the writer's start. This is said of its last state, whether its master runs or not.
+-- one that began at the writer's start and logged these groups. This is said of its last state, whether its master runs or
+-- not.
 pub record LifeFact (of_locks : locks.State) (stores : ℕ → LogStoreState) (ends : ℕ → Option LogEnd) (log : List Group) (writer : ℕ) (l : Life) : Type 0 where
   pub named : writer_of l.work ≡ writer
   pub entry : WriterEntry
   pub known : at of_locks.writers writer ≡ Some entry
   pub master : entry.master ≡ l.work.number
-  pub facts : WorkFacts entry.start.0 l.work
+  pub facts : WorkFacts entry.start.0 log l.work
   pub log_kept : KeepsOf l log
   -- it has had no lease of a page that the lock manager hasn't given
   pub epochs : (page : ℕ) → (lease_of l.work.leases page).epoch ≤ (page_in of_locks page).epoch

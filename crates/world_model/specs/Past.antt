@@ -1,5 +1,5 @@
 -- What a step adds to what is kept of the run.
-use Rattle.std.specs.Prelude.{ℕ, Bool, true, false, cond, not, ◌&&◌, is_some, nat_eq, nat_le, nat_lt, List, [], ◌∷◌, ◌++◌, drop, filter_map, length, map}
+use Rattle.std.specs.Prelude.{ℕ, Bool, true, false, cond, not, ◌&&◌, is_some, nat_eq, nat_le, nat_lt, List, [], ◌∷◌, ◌++◌, filter_map, map}
 use Rattle.std.specs.Ordering.{ordering_then}
 use Rattle.std.specs.FinMap as fin
 use Rattle.std.specs.FinSet as sets
@@ -30,13 +30,13 @@ use Rattle.key_model.specs.After.{stepped}
 use Rattle.key_model.specs.Events.{after_close, is_by}
 use Rattle.key_model.specs.Steps.{row_of}
 use Rattle.history_model.specs.History.{events_of, read_by}
-use Rattle.log_writer.specs.declared.logged.Logged.{Logged}
 use Rattle.lock_model.specs.declared.writer.WriterEntry.{WriterEntry}
 use Rattle.lock_model.specs.declared.writer.WriterStatus.{WriterStatus}
 use Rattle.lock_model.specs.declared.writer.WriterStatus.TheVariants as status
 use Rattle.lock_model.specs.State as locks
 use Rattle.master_model.specs.declared.session.Own.{Own}
 use Rattle.master_model.specs.Acks.{ends_between}
+use Rattle.master_model.specs.Logging.{logged_since}
 use Rattle.master_model.specs.State as master
 use Rattle.master_model.specs.State.{durable, writer_of}
 use Rattle.world_model.specs.World.{Past}
@@ -60,18 +60,16 @@ with_events p writer events = cond (is_closed p writer) p (record p { events = p
 
 -- ---- a master's step
 
--- The groups that it logged: those that its log has more.
-abbrev pub group_of : Logged → Group
-group_of l = l.group
-
+-- The groups that it logged: those that its log has behind the last number that it had.
 abbrev pub logged : master.Work → master.Work → List Group
-logged old new = drop (length old.log.groups) (map group_of new.log.groups)
+logged old new = logged_since old.log new.log
 
 abbrev pub events_in : List Group → List Event
 events_in [] = []
 events_in (g ∷ gs) = events_of g ++ events_in gs
 
--- The ends that became durable at it, in the order of their numbers. One that a close settled isn't settled again.
+-- The ends that became durable at it, in the order of their numbers: they are in groups of the log before it, since the
+-- log has let these go once they are durable. One that a close settled isn't settled again.
 abbrev pub settles : Past → List (Txn × Bool) → List MachineStep
 settles p [] = []
 settles p (e ∷ es) = cond (is_some (fin.get p.machine.settled e.0)) (settles p es) (Settle e.0 e.1 ∷ settles p es)
@@ -79,15 +77,15 @@ settles p (e ∷ es) = cond (is_some (fin.get p.machine.settled e.0)) (settles p
 abbrev pub with_hard : Past → Writer → ℕ → Past
 with_hard p writer number = cond (is_closed p writer) p (record p { hard = fin.insert p.hard writer.0 number })
 
-abbrev pub settled_if : Past → master.Work → ℕ → Bool → Past
-settled_if p new old false = p
-settled_if p new old true =
-    with_hard (machine_steps p (settles p (ends_between new.log.groups old (durable new)))) new.log.writer (durable new)
+abbrev pub settled_if : Past → master.Work → master.Work → Bool → Past
+settled_if p old new false = p
+settled_if p old new true =
+    with_hard (machine_steps p (settles p (ends_between old.log (durable old) (durable new)))) new.log.writer (durable new)
 
 -- By the state of the writer before and after.
 abbrev pub worked : Past → master.Work → master.Work → Past
 worked p old new =
-    settled_if (with_events p new.log.writer (events_in (logged old new))) new (durable old) (nat_lt (durable old) (durable new))
+    settled_if (with_events p new.log.writer (events_in (logged old new))) old new (nat_lt (durable old) (durable new))
 
 abbrev pub lived : Past → Option master.Life → Option master.Life → Past
 lived p (Some old) (Some new) = worked p old.work new.work
