@@ -67,12 +67,13 @@ transcript (Some steps) = codes "ok" ++ (10 ∷ run_text first steps)
 -- ---- what holds of its run
 
 -- Each reply is the plain machine's, and comes exactly where its cause holds in the state that the run had reached. A
--- transaction that was answered Committed stands from there on, each of its puts among it, and sees its own puts before.
+-- transaction that was answered Committed stands at every later step, each of its puts among it, and sees its own puts
+-- before.
 pub record IsTrueRun (steps : List PlainStep) : Type 0 where
   pub machine : RepliesAreTheMachines steps
   pub causes : (before after : List PlainStep) → steps ≡ before ++ after → RepliesHaveTheirCauses before
-  pub stands : (before after : List PlainStep) (t : Txn) → steps ≡ before ++ Commit ∷ after → CommittedStands before after t
-  pub puts : (before between after : List PlainStep) (table : ℕ) (key value : List ℕ) (t : Txn)
-      → steps ≡ before ++ Put table key value ∷ (between ++ Commit ∷ after) → PutStands before between after table key value t
+  pub stands : (before after later : List PlainStep) (t : Txn) → steps ≡ before ++ Commit ∷ (after ++ later) → CommittedStands before after t
+  pub puts : (before between after later : List PlainStep) (table : ℕ) (key value : List ℕ) (t : Txn)
+      → steps ≡ before ++ Put table key value ∷ (between ++ Commit ∷ (after ++ later)) → PutStands before between after table key value t
   pub seen : (before after : List PlainStep) (table : ℕ) (key value : List ℕ)
       → steps ≡ before ++ Put table key value ∷ after → OwnValueIsSeen before table key value

@@ -92,13 +92,14 @@ pub record RunsOut (left left' taken taken' : Option (List ℕ)) : Type 0 where
   pub spent : ((line_count lines + 1 ≡ 2 ^ 32 - 1) × (rest ≢ []))
       ⊎ ((line : List ℕ) × BeginsWith rest line (IsAtEnd left') × IsSpentLine (state_of lines) line)
 
--- WriteFault and NoMemory: the lines of a schedule were read, and the sink took a front of their transcript.
+-- WriteFault and NoMemory: the lines of a schedule were read, the last one without its line feed only where the source is
+-- at its end, and the sink took a front of their transcript.
 pub record BreaksOff (left left' taken taken' : Option (List ℕ)) : Type 0 where
   pub lines : Schedule
   pub rest : List ℕ
   pub input : List ℕ
   pub read : Consumes left left' input
-  pub spelled : (input ≡ schedule_text lines ++ rest) ⊎ (input ++ 10 ∷ [] ≡ schedule_text lines)
+  pub spelled : (input ≡ schedule_text lines ++ rest) ⊎ ((input ++ 10 ∷ [] ≡ schedule_text lines) × IsAtEnd left')
   pub allowed : IsSchedule lines
   pub counted : line_count lines < 2 ^ 32 - 1
   pub front : List ℕ

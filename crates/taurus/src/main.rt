@@ -13,29 +13,48 @@ mod text;
 use run::run;
 use std::alloc::Global;
 use std::env::{self, Env};
-use std::io;
+use std::io::{self, ErrorKind};
 use std::process::ExitCode;
 use tm_base::ByteList;
 use tm_ports::{Status, StdSink, StdSource, Word};
 
-// The words of the command line behind the program's name.
-fn words<R: Env + Alloc<A = Global>>(rt: &R) -> io::Result<Vec<Word>> {
+// The words of the command line behind the program's name, or the status where they can't be had: one that
+// isn't UTF-8 is a wrong word.
+fn words<R: Env + Alloc<A = Global>>(rt: &R) -> Result<Vec<Word>, Status> {
+    let given = match env::args(rt) {
+        Ok(given) => given,
+        Err(error) => return Err(status_of(error.kind())),
+    };
     let mut words = Vec::new(rt.alloc());
-    for word in env::args(rt)?.skip(1) {
-        words.push(ByteList::from_vec(word.into_bytes()))?;
+    for word in given.skip(1) {
+        if words.push(ByteList::from_vec(word.into_bytes())).is_err() {
+            return Err(Status::NoMemory);
+        }
     }
     Ok(words)
 }
 
-fn main(rt: HostRuntime) -> io::Result<ExitCode> {
-    let words = words(&rt)?;
-    let mut source = StdSource::new(rt.reader());
-    let mut sink = StdSink::new(io::writer(&rt));
-    let status = run(rt.alloc(), &words, &mut source, &mut sink);
-    if status != Status::Done {
-        eprintln!(rt; "{status}")?;
+fn status_of(error: ErrorKind) -> Status {
+    match error {
+        ErrorKind::OutOfMemory => Status::NoMemory,
+        _ => Status::Words,
     }
-    Ok(ExitCode::from(status.code()))
+}
+
+fn main(rt: HostRuntime) -> ExitCode {
+    let status = match words(&rt) {
+        Ok(words) => {
+            let mut source = StdSource::new(rt.reader());
+            let mut sink = StdSink::new(io::writer(&rt));
+            run(rt.alloc(), &words, &mut source, &mut sink)
+        }
+        Err(status) => status,
+    };
+    if status != Status::Done {
+        // Where the line can't be written, the number still tells.
+        let _ = eprintln!(rt; "{status}");
+    }
+    ExitCode::from(status.code())
 }
 
 #[cfg(test)]

@@ -1,13 +1,13 @@
 -- Lines in the buffer of a reader.
-use Rattle.std.proofs.Common.{◌≡◌, ◌≢◌, ◌∙◌, ℕ, ◌+◌, ◌-◌, ◌<◌, ◌≤◌, List, [], ◌++◌, length, take, drop, sym, ap, subst, arith, append_assoc}
-use Rattle.std.proofs.Math.Seq.{take-add, take-append-add}
+use Rattle.std.proofs.Common.{◌≡◌, ◌≢◌, ◌∙◌, ℕ, ◌+◌, ◌-◌, ◌<◌, ◌≤◌, List, [], ◌∷◌, ◌++◌, length, take, drop, refl, sym, ap, subst, arith, append_assoc}
+use Rattle.std.proofs.Math.Seq.{take-add, take-append-add, drop-append_seam}
 use Rattle.std.proofs.lemmas.List.{take-take, take-append-drop, take_all, drop-drop, drop-take, take_at, length-take-le, length-take, length-drop, take-append-le}
-use Rattle.std.proofs.lemmas.List.Elements.{All-append}
+use Rattle.std.proofs.lemmas.List.Elements.{All-append, All-drop, All-head}
 use Rattle.std.proofs.KnownBytes.{Consumes-trans, Consumes-kept}
 use Rattle.std.specs.Io.KnownBytes.{Consumes, Keeps, IsAtEnd}
 use Rattle.std.specs.declared.option.Option.{Option}
 use Rattle.tm_ports.specs.Found.{Finds, IsRest}
-use Rattle.tm_ports.specs.Lines.{IsLine, IsHeld, Holds, IsTooLong, IsShortLine}
+use Rattle.tm_ports.specs.Lines.{HasLine, IsLine, IsHeld, Holds, IsTooLong, IsShortLine}
 use Rattle.tm_ports.specs.declared.lines.Found.{Found}
 use Rattle.tm_ports.specs.declared.lines.Found.TheVariants.{Line, Last, End}
 
@@ -110,3 +110,14 @@ finds_rest a b held mid now (Last line) so end fits rest empty =
         ended = end;
       };
     }
+
+-- a line with its line feed isn't all line
+pub not_all_line : (bytes : List ℕ) → IsLine bytes → HasLine bytes → ⊥
+not_all_line bytes clean has =
+    let all : IsLine (has.line ++ 10 ∷ has.rest) = subst IsLine has.whole clean in
+    let behind : IsLine (10 ∷ has.rest) = subst IsLine (drop-append_seam has.line (10 ∷ has.rest)) (All-drop (λ byte. byte ≢ 10) (length has.line) (has.line ++ 10 ∷ has.rest) all) in
+    All-head (λ byte. byte ≢ 10) 10 has.rest behind refl
+
+-- what was looked at to its end, and has no line feed, isn't a line that is ready
+pub not_ready : (now held : List ℕ) (end : ℕ) → IsLine (take end held) → length held ≤ end → held ≡ now → HasLine now → ⊥
+not_ready now held end clean all same has = not_all_line now (subst IsLine (take_all end held all ∙ same) clean) has

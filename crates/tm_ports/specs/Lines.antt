@@ -1,5 +1,5 @@
 -- The lines of a text, and the bytes that a reader holds of them.
-use Rattle.std.specs.Prelude.{◌≡◌, ◌≢◌, ℕ, ◌+◌, ◌<◌, ◌≤◌, List, ◌++◌, length, take, drop, All}
+use Rattle.std.specs.Prelude.{◌≡◌, ◌≢◌, ℕ, ◌+◌, ◌<◌, ◌≤◌, List, ◌∷◌, ◌++◌, length, take, drop, All}
 use Rattle.std.specs.Io.KnownBytes.{Consumes}
 use Rattle.std.specs.declared.option.Option.{Option}
 
@@ -11,6 +11,12 @@ IsLine line = All (λ byte. byte ≢ 10) line
 pub record IsShortLine (line : List ℕ) : Type 0 where
   pub one : IsLine line
   pub short : length line ≤ 8192
+
+-- the bytes begin with a line and its line feed
+pub record HasLine (bytes : List ℕ) : Type 0 where
+  pub line : List ℕ
+  pub rest : List ℕ
+  pub whole : bytes ≡ line ++ 10 ∷ rest
 
 -- the bytes begin with more than 8,192 bytes that have no line feed
 pub record IsTooLong (bytes : List ℕ) : Type 0 where

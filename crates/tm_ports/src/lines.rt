@@ -3,7 +3,7 @@ ghost use Rattle.std.specs.Prelude.{◌≡◌, ◌+◌, ◌<◌, ◌≤◌, List
 ghost use Rattle.std.specs.Io.KnownBytes.{Keeps};
 ghost use Rattle.tm_ports.specs.Faults.{HasCause};
 ghost use Rattle.tm_ports.specs.Found.{Finds, Fills, IsRest, LineCause};
-ghost use Rattle.tm_ports.specs.Lines.{IsLine, Holds};
+ghost use Rattle.tm_ports.specs.Lines.{IsLine, HasLine, Holds};
 
 use crate::{Failed, Source};
 use memchr::memchr;
@@ -135,6 +135,7 @@ impl LineReader {
     /// that were read are held, and the call may be made again.
     pub fn next_line<R: Source>(&mut self, source: &mut R) -> Result<Found, LineError>
         ensures found { IfOk result (λ answer. Finds (R.left source.old) (R.left source.new) self.old self.new answer) }
+        ensures ready { HasLine self.old → source.new ≡ source.old }
         ensures kept { OnErr result (Holds (R.left source.old) (R.left source.new) self.old self.new) }
         ensures cause { IfErr result (λ e. LineCause e self.new (R.count source.old) (R.count source.new)) }
         ensures later { R.count source.old ≤ R.count source.new }

@@ -1,7 +1,8 @@
 use Rattle.std.proofs.Common.{arith, ◌≡◌, ◌∙◌, ◌≤◌, ◌++◌, [], length, sym, ap, subst, append-nil}
 use Rattle.std.proofs.lemmas.List.{nil_from_length}
+use Rattle.std.proofs.lemmas.Result.{err_from_is_err_and}
 use Rattle.tm_ports.specs.Lines.{IsTooLong, IsShortLine}
-use Rattle.tm_ports.proofs.LineLemmas.{too_long, short_line, finds_rest, holds_kept, holds_more}
+use Rattle.tm_ports.proofs.LineLemmas.{too_long, short_line, finds_rest, holds_kept, holds_more, not_ready}
 use Rattle.tm_ports.proofs.lines.LineReader.next_line.Goals as goal
 
 pub returns-then-end-gt-MAX_LINE-clause-cause : goal.returns-then-end-gt-MAX_LINE-clause-cause
@@ -33,3 +34,38 @@ returns-in-Err-clause-cause g c =
       subst IsShortLine (sym same) (short_line held c.line_end-end.result c.line_end-end.ensures.before all (omega arith)),
       omega (arith, c.loop-end.invariant.later, c.in-Err.ensures.cause.later, c.in-Err.ensures.cause.failed),
     )
+
+pub returns-in_err-take_rest-in-Ok-eq0-clause-ready : goal.returns-in_err-take_rest-in-Ok-eq0-clause-ready
+returns-in_err-take_rest-in-Ok-eq0-clause-ready g c has =
+    let held = c.loop-end.self in
+    let all : length held ≤ c.line_end-end.result = omega (arith, ap length c.line_end-end.ensures.same) in
+    absurd (not_ready c.args.self.now held c.line_end-end.result c.line_end-end.ensures.before all (c.loop-end.invariant.ready has).1 has)
+
+pub returns-in_err-take_rest-in-Ok-eq0-clause-kept : goal.returns-in_err-take_rest-in-Ok-eq0-clause-kept
+returns-in_err-take_rest-in-Ok-eq0-clause-kept g c =
+    let filled = c.in-Ok-eq0.ensures.ok in
+    let p = err_from_is_err_and c.from_residual-in_err-take_rest-in-Ok-eq0.result c.from_residual-in_err-take_rest-in-Ok-eq0.ensures.1 in
+    rw p.1 (holds_more _ _ _ _ _ _ _ c.loop-end.invariant.held filled.read (c.in_err-take_rest-in-Ok-eq0.ensures.err ∙ (filled.all ∙ ap (λ l. l ++ filled.input) c.line_end-end.ensures.same)))
+
+pub returns-in-Ok-eq0-clause-ready : goal.returns-in-Ok-eq0-clause-ready
+returns-in-Ok-eq0-clause-ready g c has =
+    let held = c.loop-end.self in
+    let all : length held ≤ c.line_end-end.result = omega (arith, ap length c.line_end-end.ensures.same) in
+    absurd (not_ready c.args.self.now held c.line_end-end.result c.line_end-end.ensures.before all (c.loop-end.invariant.ready has).1 has)
+
+pub returns-in-Err-clause-ready : goal.returns-in-Err-clause-ready
+returns-in-Err-clause-ready g c has =
+    let held = c.loop-end.self in
+    let all : length held ≤ c.line_end-end.result = omega (arith, ap length c.line_end-end.ensures.same) in
+    absurd (not_ready c.args.self.now held c.line_end-end.result c.line_end-end.ensures.before all (c.loop-end.invariant.ready has).1 has)
+
+pub loop-end-preserved : goal.loop-end-preserved
+loop-end-preserved g c =
+    let held = c.loop-end.self in
+    let filled = c.in-Ok.ensures.ok in
+    let all : length held ≤ c.line_end-end.result = omega (arith, ap length c.line_end-end.ensures.same) in
+    record {
+      held = holds_more _ _ _ _ _ _ _ c.loop-end.invariant.held filled.read (filled.all ∙ ap (λ l. l ++ filled.input) c.line_end-end.ensures.same);
+      ready = λ has. absurd (not_ready c.args.self.now held c.line_end-end.result c.line_end-end.ensures.before all (c.loop-end.invariant.ready has).1 has);
+      later = omega (arith, c.loop-end.invariant.later, c.in-Ok.ensures.cause.later);
+    }

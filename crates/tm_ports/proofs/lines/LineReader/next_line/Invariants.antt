@@ -1,5 +1,5 @@
-use Rattle.std.proofs.Common.{◌≤◌, ◌-◌, length}
-use Rattle.tm_ports.specs.Lines.{Holds}
+use Rattle.std.proofs.Common.{◌≡◌, ◌≤◌, ◌-◌, length}
+use Rattle.tm_ports.specs.Lines.{HasLine, Holds}
 use Rattle.tm_ports.proofs.lines.LineReader.next_line.Given as goal
 
 abbrev pub invariant-loop-end : goal.invariant-loop-end
@@ -7,6 +7,7 @@ invariant-loop-end g l =
     let R = g.R.Source in
     record {
       held : Holds (R.left l.fn.source) (R.left l.source) l.fn.self l.self;
+      ready : HasLine l.fn.self → (l.source ≡ l.fn.source) × (l.self ≡ l.fn.self);
       later : R.count l.fn.source ≤ R.count l.source;
     }
 
