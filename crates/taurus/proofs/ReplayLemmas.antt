@@ -197,7 +197,7 @@ broken_in law L L1 L2 T T1 T2 world count held held' line small at takes so =
           rest = [];
           input = next.reached.input;
           read = next.reached.read;
-          spelled = inr (last_spelled (schedule_text at.lines) line (schedule_text more.longer) next.reached.input next.rest next.reached.spelled last.0 more.spelled, last.1.1);
+          spelled = inr (last_spelled (schedule_text at.lines) line (schedule_text more.longer) next.reached.input next.rest next.reached.spelled last.0 more.spelled, last.2);
           allowed = more.allowed next.reached.allowed;
           counted = omega (arith, more.counted, at.counted);
           front = transcript at.lines ++ so.front;
@@ -283,11 +283,11 @@ advances_as b c L1 L2 held held' world new T1 T2 same step = subst (λ (x : Bool
 pub replays_as : (s t : Status) (L L2 T T2 : Option (List ℕ)) (R R2 K K2 : ℕ) → t ≡ s → Replays s L L2 T T2 R R2 K K2 → Replays t L L2 T T2 R R2 K K2
 replays_as s t L L2 T T2 R R2 K K2 same so = subst (λ (x : Status). Replays x L L2 T T2 R R2 K K2) (sym same) so
 
--- why the last line was not performed
-pub last_cause : (e : Stop) (L1 L2 T1 T2 : Option (List ℕ)) (old : Option State) (held held' line : List ℕ) (R1 R2 K1 K2 : ℕ) → TakesLast L1 L2 held line → PerformCause e old line T1 T2 K1 K2
+-- why a line that was read was not performed
+pub taken_cause : (e : Stop) (L1 L2 T1 T2 : Option (List ℕ)) (old : Option State) (held held' line : List ℕ) (R1 R2 K1 K2 : ℕ) → Takes L1 L2 held held' line → PerformCause e old line T1 T2 K1 K2
     → AdvanceCause e L1 L2 held held' old T1 T2 R1 R2 K1 K2
-last_cause Bad L1 L2 T1 T2 old held held' line R1 R2 K1 K2 last cause = inr (line, inr last, cause.0, cause.1)
-last_cause ReadFault L1 L2 T1 T2 old held held' line R1 R2 K1 K2 last cause = absurd cause
-last_cause WriteFault L1 L2 T1 T2 old held held' line R1 R2 K1 K2 last cause = ((line, inr last, cause.0), cause.1)
-last_cause NoMemory L1 L2 T1 T2 old held held' line R1 R2 K1 K2 last cause = inr (line, inr last, cause)
-last_cause Full L1 L2 T1 T2 old held held' line R1 R2 K1 K2 last cause = (line, inr last, cause.0, cause.1)
+taken_cause Bad L1 L2 T1 T2 old held held' line R1 R2 K1 K2 takes cause = inr (line, takes, cause.0, cause.1)
+taken_cause ReadFault L1 L2 T1 T2 old held held' line R1 R2 K1 K2 takes cause = absurd cause
+taken_cause WriteFault L1 L2 T1 T2 old held held' line R1 R2 K1 K2 takes cause = ((line, takes, cause.0), cause.1)
+taken_cause NoMemory L1 L2 T1 T2 old held held' line R1 R2 K1 K2 takes cause = inr (line, takes, cause)
+taken_cause Full L1 L2 T1 T2 old held held' line R1 R2 K1 K2 takes cause = (line, takes, cause.0, cause.1)
