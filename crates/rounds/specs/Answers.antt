@@ -5,7 +5,7 @@ use Rattle.lock_model.specs.State.{State}
 use Rattle.lock_model.specs.Step.{step}
 use Rattle.store_model.specs.LogState.{LogStoreState}
 use Rattle.store_model.specs.LogStep.{stepped}
-use Rattle.log_writer.specs.Log.{Log, acked}
+use Rattle.log_writer.specs.Log.{Log, acked, let_go}
 use Rattle.rounds.specs.declared.log.Ack.{Ack}
 
 -- 1 where something is sent, else 0.
@@ -30,7 +30,7 @@ abbrev pub managed : State → List Message → ℕ
 managed s [] = 0
 managed s (m ∷ ms) = one_if_any (step s m).2 + managed (step s m).0 ms
 
--- A writer's log after these acknowledgements.
+-- A writer's log after these acknowledgements, where it lets its durable groups go after each.
 abbrev pub all_acked : Log → List Ack → Log
 all_acked log [] = log
-all_acked log (a ∷ rest) = all_acked (acked log a.store a.seq) rest
+all_acked log (a ∷ rest) = all_acked (let_go (acked log a.store a.seq)) rest

@@ -1,7 +1,7 @@
 //! A writer's log, at its master and at a log store.
-ghost use Rattle.std.specs.Prelude.{◌≡◌, ◌+◌, ◌<◌, ◌≤◌, IfOk, OnOk, length};
+ghost use Rattle.std.specs.Prelude.{◌≡◌, ◌+◌, ◌<◌, ◌≤◌, IfOk, OnOk};
 ghost use Rattle.std.specs.Bool.{OnTrue};
-ghost use Rattle.log_writer.specs.Log.{durable_seq, last_stamp};
+ghost use Rattle.log_writer.specs.Log.{durable_seq, last_seq, last_stamp};
 ghost use Rattle.rounds.specs.Answers.{all_acked, answers, moved, stored};
 
 use log_store::LogStore;
@@ -117,13 +117,14 @@ pub fn fetch(alloc: Global, groups: u32, rounds: u32) -> Result<usize, Failure> 
     Ok(hand_in(&mut store, &messages)?)
 }
 
-/// Notes these acknowledgements. Gives the number of the last durable group.
+/// Notes these acknowledgements, and lets what is durable go after each. Gives the number of the last durable group.
 fn note_all(log: &mut LogWriter, acks: &[Ack]) -> u32
     ensures all { log.new ≡ all_acked log.old acks.now }
-    ensures value { result ≡ durable_seq log.new.groups }
+    ensures value { result ≡ durable_seq log.new }
 {
     for ack in acks {
         log.on_ack(ack.store, ack.seq);
+        log.let_go();
     }
     log.durable_seq()
 }
@@ -143,8 +144,8 @@ fn acks(alloc: Global, before: u32, count: u32) -> Mem<Vec<Ack>> {
 // Whether the group is the next one of the log.
 fn follows(log: &LogWriter, group: &Group) -> bool
     ensures own { OnTrue result (group.now.writer ≡ log.now.writer) }
-    ensures next { OnTrue result (group.now.seq ≡ length log.now.groups + 1) }
-    ensures later { OnTrue result (last_stamp log.now.groups < group.now.stamp.0) }
+    ensures next { OnTrue result (group.now.seq ≡ last_seq log.now + 1) }
+    ensures later { OnTrue result (last_stamp log.now < group.now.stamp.0) }
 {
     group.writer.0 == log.writer().0
         && u64::from(group.seq) == u64::from(log.last_seq()) + 1
