@@ -13,8 +13,6 @@ mod owned;
 mod sessions;
 mod settled;
 mod step;
-#[cfg(test)]
-mod tests;
 mod values;
 
 pub use events::{

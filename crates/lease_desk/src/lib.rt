@@ -11,8 +11,6 @@ mod held_pages;
 mod key_set;
 mod lease;
 mod lease_map;
-#[cfg(test)]
-mod tests;
 
 pub use desk::Desk;
 pub use lease::{Lease, PageLease};

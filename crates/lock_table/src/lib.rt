@@ -14,7 +14,5 @@ mod nodes;
 mod orders;
 mod seek;
 mod tags;
-#[cfg(test)]
-mod tests;
 
 pub use tags::{MAX_TAGS, TagError, Tags};

@@ -10,6 +10,3 @@ mod learnt;
 
 pub use group::{decode, decode_part, encode, encode_part, put_group, read_group};
 pub use learnt::{put_vector, read_vector};
-
-#[cfg(test)]
-mod tests;

@@ -12,8 +12,6 @@ pub mod laws;
 mod message;
 mod session;
 mod step;
-#[cfg(test)]
-mod tests;
 mod world;
 
 pub use error::WorldError;

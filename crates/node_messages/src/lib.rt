@@ -12,6 +12,3 @@ mod page_note;
 mod shape;
 
 pub use message::{decode, encode};
-
-#[cfg(test)]
-mod tests;

@@ -13,6 +13,3 @@ pub use body::{kind_of, put_body, read_body};
 pub use image::{decode, encode, put_image, read_image};
 pub use place::{own_key, read_txn};
 pub use rows::{put_row, put_txn, read_row};
-
-#[cfg(test)]
-mod tests;

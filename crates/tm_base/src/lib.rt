@@ -14,8 +14,6 @@ mod page_size;
 mod reply;
 mod step;
 mod steps;
-#[cfg(test)]
-mod tests;
 
 pub use command::Command;
 pub use log_size::group_size;

@@ -12,8 +12,6 @@ mod row_map;
 mod row_set;
 mod short_bytes;
 mod sizes;
-#[cfg(test)]
-mod tests;
 mod transaction;
 mod txn_map;
 mod vector;

@@ -7,7 +7,5 @@
 
 mod clock;
 pub mod laws;
-#[cfg(test)]
-mod tests;
 
 pub use clock::{Clock, StampsSpent};

@@ -1,4 +1,5 @@
-use super::*;
+//! Groups and their parts: what comes back, and the first fault with its place.
+use log_record::{decode, decode_part, encode, encode_part};
 use std::alloc::{AllocError, Global};
 use std::test::*;
 use wire_fields::ReadError;
@@ -62,35 +63,45 @@ fn parts_may_have_no_record(rt: HostRuntime) -> Result<(), Fail> {
     Ok(())
 }
 
+// Of the group of one row: a place, the byte put there, and the fault.
+fn row_fault(number: u32) -> (usize, u8, ReadError) {
+    match number {
+        0 => (20, 9, ReadError::Kind { at: 20 }),
+        1 => (20, 0, ReadError::Kind { at: 20 }),
+        2 => (8, 128, ReadError::Range { at: 8 }),
+        3 => (3, 0, ReadError::Range { at: 0 }),
+        4 => (7, 0, ReadError::Range { at: 4 }),
+        5 => (15, 0, ReadError::Range { at: 8 }),
+        6 => (19, 0, ReadError::Range { at: 18 }),
+        7 => (24, 0, ReadError::Range { at: 21 }),
+        8 => (32, 1, ReadError::Range { at: 25 }),
+        _ => (19, 2, ReadError::Truncated { at: 50 }),
+    }
+}
+
+// The same of the three records.
+fn records_fault(number: u32) -> (usize, u8, ReadError) {
+    match number {
+        0 => (21, 2, ReadError::NotCanonical { at: 18 }),
+        1 => (21, 0, ReadError::Range { at: 18 }),
+        2 => (29, 0, ReadError::Range { at: 22 }),
+        3 => (51, 1, ReadError::NotCanonical { at: 47 }),
+        4 => (51, 0, ReadError::Range { at: 48 }),
+        5 => (44, 9, ReadError::Range { at: 37 }),
+        6 => (68, 6, ReadError::NotCanonical { at: 68 }),
+        7 => (32, 5, ReadError::NotCanonical { at: 32 }),
+        _ => (60, 3, ReadError::Kind { at: 60 }),
+    }
+}
+
 #[test]
 fn faults_are_named(rt: HostRuntime) -> Result<(), Fail> {
-    let faults = [
-        (20, 9, ReadError::Kind { at: 20 }),
-        (20, 0, ReadError::Kind { at: 20 }),
-        (8, 128, ReadError::Range { at: 8 }),
-        (3, 0, ReadError::Range { at: 0 }),
-        (7, 0, ReadError::Range { at: 4 }),
-        (15, 0, ReadError::Range { at: 8 }),
-        (19, 0, ReadError::Range { at: 18 }),
-        (24, 0, ReadError::Range { at: 21 }),
-        (32, 1, ReadError::Range { at: 25 }),
-        (19, 2, ReadError::Truncated { at: 50 }),
-    ];
-    for (at, byte, fault) in faults {
+    for number in 0..10 {
+        let (at, byte, fault) = row_fault(number);
         assert_eq!(rt; fault_of(rt.alloc(), &GROUP, at, byte)?, Some(fault));
     }
-    let orders = [
-        (21, 2, ReadError::NotCanonical { at: 18 }),
-        (21, 0, ReadError::Range { at: 18 }),
-        (29, 0, ReadError::Range { at: 22 }),
-        (51, 1, ReadError::NotCanonical { at: 47 }),
-        (51, 0, ReadError::Range { at: 48 }),
-        (44, 9, ReadError::Range { at: 37 }),
-        (68, 6, ReadError::NotCanonical { at: 68 }),
-        (32, 5, ReadError::NotCanonical { at: 32 }),
-        (60, 3, ReadError::Kind { at: 60 }),
-    ];
-    for (at, byte, fault) in orders {
+    for number in 0..9 {
+        let (at, byte, fault) = records_fault(number);
         assert_eq!(rt; fault_of(rt.alloc(), &THREE, at, byte)?, Some(fault));
     }
     Ok(())

@@ -1,4 +1,5 @@
-use super::*;
+//! Messages: each kind comes back, and the first fault is named with its place.
+use node_messages::{decode, encode};
 use std::alloc::{AllocError, Global};
 use std::test::*;
 use tm_base::{Message, Node, Note, Page, Stamp, Writer};
@@ -82,40 +83,42 @@ const ROSTER: [u8; 38] = [
 /// No writer.
 const NONE: [u8; 4] = [0, 0, 0, 0];
 
-/// Of each kind its number, a body, and where the last field of the message begins.
-const BODIES: [(u8, &[u8], usize); 31] = [
-    (1, &NUMBER, 13),
-    (2, &JOINED, 17),
-    (3, &GROUP, 61),
-    (4, &PAIR, 17),
-    (5, &PAIR, 17),
-    (6, &PAIR, 17),
-    (7, &PAIR, 17),
-    (8, &PAIR, 17),
-    (9, &GROUPS, 62),
-    (10, &NUMBER, 13),
-    (11, &PAIR, 17),
-    (12, &ENDING, 21),
-    (13, &ENDING, 21),
-    (14, &TAKEOVER, 68),
-    (15, &PAIR, 17),
-    (16, &UNDONE, 39),
-    (17, &RECOVERED, 35),
-    (18, &PAIR, 17),
-    (19, &PAIR, 17),
-    (20, &LEASE, 21),
-    (21, &GRANT, 95),
-    (22, &FRESH, 21),
-    (23, &GRANT, 95),
-    (24, &LEASE, 21),
-    (25, &NUMBER, 13),
-    (26, &IMAGE, 18),
-    (27, &MISSING, 17),
-    (28, &ASK, 21),
-    (29, &FATE, 40),
-    (30, &ROSTER, 43),
-    (31, &NONE, 13),
-];
+// Of each kind a body, and where the last field of the message begins.
+fn body_of(kind: u8) -> (&'static [u8], usize) {
+    match kind {
+        1 => (&NUMBER, 13),
+        2 => (&JOINED, 17),
+        3 => (&GROUP, 61),
+        4 => (&PAIR, 17),
+        5 => (&PAIR, 17),
+        6 => (&PAIR, 17),
+        7 => (&PAIR, 17),
+        8 => (&PAIR, 17),
+        9 => (&GROUPS, 62),
+        10 => (&NUMBER, 13),
+        11 => (&PAIR, 17),
+        12 => (&ENDING, 21),
+        13 => (&ENDING, 21),
+        14 => (&TAKEOVER, 68),
+        15 => (&PAIR, 17),
+        16 => (&UNDONE, 39),
+        17 => (&RECOVERED, 35),
+        18 => (&PAIR, 17),
+        19 => (&PAIR, 17),
+        20 => (&LEASE, 21),
+        21 => (&GRANT, 95),
+        22 => (&FRESH, 21),
+        23 => (&GRANT, 95),
+        24 => (&LEASE, 21),
+        25 => (&NUMBER, 13),
+        26 => (&IMAGE, 18),
+        27 => (&MISSING, 17),
+        28 => (&ASK, 21),
+        29 => (&FATE, 40),
+        30 => (&ROSTER, 43),
+        _ => (&NONE, 13),
+    }
+}
 
 /// From master 1 to the lock manager, with stamp 6.
 const HEAD: [u8; 12] = [1, 1, 4, 1, 0, 0, 0, 0, 0, 0, 0, 6];
@@ -130,7 +133,8 @@ fn spelled(alloc: Global, kind: u8, body: &[u8]) -> Result<Vec<u8>, AllocError> 
 
 #[test]
 fn each_kind_comes_back(rt: HostRuntime) -> Result<(), Fail> {
-    for (kind, body, _) in BODIES {
+    for kind in 1..32 {
+        let (body, _) = body_of(kind);
         let bytes = spelled(rt.alloc(), kind, body)?;
         let message = decode(rt.alloc(), &bytes)?;
         assert_eq!(rt; encode(rt.alloc(), &message)?.as_slice(), bytes.as_slice());
@@ -140,7 +144,8 @@ fn each_kind_comes_back(rt: HostRuntime) -> Result<(), Fail> {
 
 #[test]
 fn cut_and_longer_messages_are_refused(rt: HostRuntime) -> Result<(), Fail> {
-    for (kind, body, last) in BODIES {
+    for kind in 1..32 {
+        let (body, last) = body_of(kind);
         let mut bytes = spelled(rt.alloc(), kind, body)?;
         let end = bytes.len();
         assert_eq!(rt;
@@ -217,9 +222,7 @@ fn recall_is_written(rt: HostRuntime) -> Result<(), Fail> {
 
 /// What a message of this kind gives with one byte changed.
 fn fault_of(alloc: Global, kind: u8, at: usize, byte: u8) -> Result<Option<ReadError>, AllocError> {
-    let Some((_, body, _)) = BODIES.get(usize::from(kind).saturating_sub(1)).copied() else {
-        return Ok(None);
-    };
+    let (body, _) = body_of(kind);
     let mut bytes = spelled(alloc, kind, body)?;
     if let Some(place) = bytes.get_mut(at) {
         *place = byte;
@@ -227,85 +230,100 @@ fn fault_of(alloc: Global, kind: u8, at: usize, byte: u8) -> Result<Option<ReadE
     Ok(decode(alloc, &bytes).err())
 }
 
+// A kind, a place, the byte put there, and the fault: of the head.
+fn head_fault(number: u32) -> (u8, usize, u8, ReadError) {
+    match number {
+        0 => (1, 0, 0, ReadError::Kind { at: 0 }),
+        1 => (1, 0, 6, ReadError::Kind { at: 0 }),
+        2 => (1, 1, 0, ReadError::Range { at: 1 }),
+        3 => (1, 2, 7, ReadError::Kind { at: 2 }),
+        4 => (1, 3, 2, ReadError::Range { at: 3 }),
+        5 => (1, 4, 128, ReadError::Range { at: 4 }),
+        6 => (1, 12, 0, ReadError::Kind { at: 12 }),
+        _ => (1, 12, 32, ReadError::Kind { at: 12 }),
+    }
+}
+
 #[test]
 fn faults_of_the_head_are_named(rt: HostRuntime) -> Result<(), Fail> {
-    let faults = [
-        (1, 0, 0, ReadError::Kind { at: 0 }),
-        (1, 0, 6, ReadError::Kind { at: 0 }),
-        (1, 1, 0, ReadError::Range { at: 1 }),
-        (1, 2, 7, ReadError::Kind { at: 2 }),
-        (1, 3, 2, ReadError::Range { at: 3 }),
-        (1, 4, 128, ReadError::Range { at: 4 }),
-        (1, 12, 0, ReadError::Kind { at: 12 }),
-        (1, 12, 32, ReadError::Kind { at: 12 }),
-    ];
-    for (kind, at, byte, fault) in faults {
+    for number in 0..8 {
+        let (kind, at, byte, fault) = head_fault(number);
         assert_eq!(rt; fault_of(rt.alloc(), kind, at, byte)?, Some(fault));
     }
     Ok(())
+}
+
+// The same of the parts of a message.
+fn part_fault(number: u32) -> (u8, usize, u8, ReadError) {
+    match number {
+        0 => (2, 20, 0, ReadError::Range { at: 17 }),
+        1 => (4, 16, 0, ReadError::Range { at: 13 }),
+        2 => (10, 16, 0, ReadError::Range { at: 13 }),
+        3 => (12, 16, 0, ReadError::Range { at: 13 }),
+        4 => (20, 16, 0, ReadError::Range { at: 13 }),
+        5 => (22, 16, 0, ReadError::Range { at: 13 }),
+        6 => (27, 17, 128, ReadError::Range { at: 17 }),
+        7 => (28, 20, 0, ReadError::Range { at: 17 }),
+        8 => (3, 16, 0, ReadError::Range { at: 13 }),
+        9 => (3, 33, 7, ReadError::Kind { at: 33 }),
+        10 => (9, 20, 3, ReadError::Truncated { at: 63 }),
+        11 => (9, 24, 0, ReadError::Range { at: 21 }),
+        12 => (9, 41, 7, ReadError::Kind { at: 41 }),
+        13 => (9, 61, 0, ReadError::Range { at: 60 }),
+        14 => (26, 13, 3, ReadError::Kind { at: 13 }),
+        15 => (26, 25, 1, ReadError::Range { at: 18 }),
+        _ => (26, 17, 0, ReadError::Range { at: 14 }),
+    }
 }
 
 #[test]
 fn faults_of_parts_are_named(rt: HostRuntime) -> Result<(), Fail> {
-    let faults = [
-        (2, 20, 0, ReadError::Range { at: 17 }),
-        (4, 16, 0, ReadError::Range { at: 13 }),
-        (10, 16, 0, ReadError::Range { at: 13 }),
-        (12, 16, 0, ReadError::Range { at: 13 }),
-        (20, 16, 0, ReadError::Range { at: 13 }),
-        (22, 16, 0, ReadError::Range { at: 13 }),
-        (27, 17, 128, ReadError::Range { at: 17 }),
-        (28, 20, 0, ReadError::Range { at: 17 }),
-        (3, 16, 0, ReadError::Range { at: 13 }),
-        (3, 33, 7, ReadError::Kind { at: 33 }),
-        (9, 20, 3, ReadError::Truncated { at: 63 }),
-        (9, 24, 0, ReadError::Range { at: 21 }),
-        (9, 41, 7, ReadError::Kind { at: 41 }),
-        (9, 61, 0, ReadError::Range { at: 60 }),
-        (26, 13, 3, ReadError::Kind { at: 13 }),
-        (26, 25, 1, ReadError::Range { at: 18 }),
-        (26, 17, 0, ReadError::Range { at: 14 }),
-    ];
-    for (kind, at, byte, fault) in faults {
+    for number in 0..17 {
+        let (kind, at, byte, fault) = part_fault(number);
         assert_eq!(rt; fault_of(rt.alloc(), kind, at, byte)?, Some(fault));
     }
     Ok(())
 }
 
+// The same of lists.
+fn list_fault(number: u32) -> (u8, usize, u8, ReadError) {
+    match number {
+        0 => (14, 21, 2, ReadError::Range { at: 21 }),
+        1 => (14, 41, 0, ReadError::NotCanonical { at: 38 }),
+        2 => (14, 42, 128, ReadError::Range { at: 42 }),
+        3 => (14, 25, 3, ReadError::Truncated { at: 76 }),
+        4 => (14, 51, 3, ReadError::Truncated { at: 76 }),
+        5 => (16, 20, 0, ReadError::Range { at: 17 }),
+        6 => (16, 26, 2, ReadError::NotCanonical { at: 35 }),
+        7 => (17, 30, 0, ReadError::Range { at: 23 }),
+        8 => (29, 20, 0, ReadError::Range { at: 17 }),
+        9 => (29, 21, 2, ReadError::Range { at: 21 }),
+        10 => (29, 27, 0, ReadError::Range { at: 24 }),
+        11 => (21, 25, 128, ReadError::Range { at: 25 }),
+        12 => (21, 36, 5, ReadError::Range { at: 77 }),
+        13 => (21, 42, 0, ReadError::Range { at: 39 }),
+        14 => (21, 48, 106, ReadError::NotCanonical { at: 47 }),
+        15 => (21, 52, 3, ReadError::NotCanonical { at: 57 }),
+        16 => (21, 56, 5, ReadError::NotCanonical { at: 47 }),
+        17 => (21, 56, 4, ReadError::NotCanonical { at: 47 }),
+        18 => (21, 58, 108, ReadError::NotCanonical { at: 67 }),
+        19 => (21, 62, 1, ReadError::NotCanonical { at: 57 }),
+        20 => (21, 68, 106, ReadError::NotCanonical { at: 67 }),
+        21 => (21, 47, 65, ReadError::Range { at: 47 }),
+        22 => (21, 94, 1, ReadError::NotCanonical { at: 91 }),
+        23 => (21, 83, 128, ReadError::Range { at: 83 }),
+        24 => (30, 18, 0, ReadError::Range { at: 15 }),
+        25 => (30, 20, 3, ReadError::Range { at: 20 }),
+        26 => (30, 25, 128, ReadError::Range { at: 25 }),
+        27 => (30, 36, 1, ReadError::NotCanonical { at: 33 }),
+        _ => (30, 14, 3, ReadError::Truncated { at: 51 }),
+    }
+}
+
 #[test]
 fn faults_of_lists_are_named(rt: HostRuntime) -> Result<(), Fail> {
-    let faults = [
-        (14, 21, 2, ReadError::Range { at: 21 }),
-        (14, 41, 0, ReadError::NotCanonical { at: 38 }),
-        (14, 42, 128, ReadError::Range { at: 42 }),
-        (14, 25, 3, ReadError::Truncated { at: 76 }),
-        (14, 51, 3, ReadError::Truncated { at: 76 }),
-        (16, 20, 0, ReadError::Range { at: 17 }),
-        (16, 26, 2, ReadError::NotCanonical { at: 35 }),
-        (17, 30, 0, ReadError::Range { at: 23 }),
-        (29, 20, 0, ReadError::Range { at: 17 }),
-        (29, 21, 2, ReadError::Range { at: 21 }),
-        (29, 27, 0, ReadError::Range { at: 24 }),
-        (21, 25, 128, ReadError::Range { at: 25 }),
-        (21, 36, 5, ReadError::Range { at: 77 }),
-        (21, 42, 0, ReadError::Range { at: 39 }),
-        (21, 48, 106, ReadError::NotCanonical { at: 47 }),
-        (21, 52, 3, ReadError::NotCanonical { at: 57 }),
-        (21, 56, 5, ReadError::NotCanonical { at: 47 }),
-        (21, 56, 4, ReadError::NotCanonical { at: 47 }),
-        (21, 58, 108, ReadError::NotCanonical { at: 67 }),
-        (21, 62, 1, ReadError::NotCanonical { at: 57 }),
-        (21, 68, 106, ReadError::NotCanonical { at: 67 }),
-        (21, 47, 65, ReadError::Range { at: 47 }),
-        (21, 94, 1, ReadError::NotCanonical { at: 91 }),
-        (21, 83, 128, ReadError::Range { at: 83 }),
-        (30, 18, 0, ReadError::Range { at: 15 }),
-        (30, 20, 3, ReadError::Range { at: 20 }),
-        (30, 25, 128, ReadError::Range { at: 25 }),
-        (30, 36, 1, ReadError::NotCanonical { at: 33 }),
-        (30, 14, 3, ReadError::Truncated { at: 51 }),
-    ];
-    for (kind, at, byte, fault) in faults {
+    for number in 0..29 {
+        let (kind, at, byte, fault) = list_fault(number);
         assert_eq!(rt; fault_of(rt.alloc(), kind, at, byte)?, Some(fault));
     }
     Ok(())

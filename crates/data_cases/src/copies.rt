@@ -1,9 +1,9 @@
 //! That the copies answer with ample memory, by example.
-use crate::{
+use std::test::Fail;
+use tm_base::{
     ByteList, Command, Key, Message, Node, Note, Outcome, Page, Reply, Stamp, Step, TryCopy, Txn,
     Writer,
 };
-use std::test::Fail;
 
 #[test]
 fn a_copied_command_is_the_same(rt: HostRuntime) -> Result<(), Fail> {

@@ -1,4 +1,5 @@
-use super::*;
+//! Images: what comes back, and the first fault with its place.
+use page_image::{decode, encode};
 use std::alloc::{AllocError, Global};
 use std::test::*;
 use tm_base::{room, size};
@@ -44,86 +45,94 @@ fn images_come_back(rt: HostRuntime) -> Result<(), Fail> {
     Ok(())
 }
 
+// Of the leaf: a place, the byte put there, and the fault.
+fn leaf_fault(number: u32) -> (usize, u8, ReadError) {
+    match number {
+        0 => (0, 3, ReadError::Kind { at: 0 }),
+        1 => (4, 0, ReadError::Range { at: 1 }),
+        2 => (5, 128, ReadError::Range { at: 5 }),
+        3 => (15, 1, ReadError::Range { at: 15 }),
+        4 => (16, 65, ReadError::Range { at: 16 }),
+        5 => (20, 0, ReadError::Range { at: 20 }),
+        6 => (20, 65, ReadError::Range { at: 20 }),
+        7 => (25, 0, ReadError::Range { at: 22 }),
+        8 => (29, 0, ReadError::Range { at: 26 }),
+        9 => (30, 3, ReadError::Range { at: 30 }),
+        10 => (34, 253, ReadError::Range { at: 33 }),
+        11 => (19, 2, ReadError::Truncated { at: 35 }),
+        _ => (19, 0, ReadError::NotCanonical { at: 20 }),
+    }
+}
+
+// The same of the inner page.
+fn inner_fault(number: u32) -> (usize, u8, ReadError) {
+    match number {
+        0 => (15, 0, ReadError::Range { at: 15 }),
+        1 => (15, 6, ReadError::Range { at: 15 }),
+        2 => (26, 106, ReadError::NotCanonical { at: 25 }),
+        _ => (26, 0, ReadError::NotCanonical { at: 25 }),
+    }
+}
+
 #[test]
 fn faults_are_named(rt: HostRuntime) -> Result<(), Fail> {
-    let faults = [
-        (0, 3, ReadError::Kind { at: 0 }),
-        (4, 0, ReadError::Range { at: 1 }),
-        (5, 128, ReadError::Range { at: 5 }),
-        (15, 1, ReadError::Range { at: 15 }),
-        (16, 65, ReadError::Range { at: 16 }),
-        (20, 0, ReadError::Range { at: 20 }),
-        (20, 65, ReadError::Range { at: 20 }),
-        (25, 0, ReadError::Range { at: 22 }),
-        (29, 0, ReadError::Range { at: 26 }),
-        (30, 3, ReadError::Range { at: 30 }),
-        (34, 253, ReadError::Range { at: 33 }),
-        (19, 2, ReadError::Truncated { at: 35 }),
-        (19, 0, ReadError::NotCanonical { at: 20 }),
-    ];
-    for (at, byte, fault) in faults {
+    for number in 0..13 {
+        let (at, byte, fault) = leaf_fault(number);
         assert_eq!(rt; fault_of(rt.alloc(), &LEAF, at, byte)?, Some(fault));
     }
-    let inner = [
-        (15, 0, ReadError::Range { at: 15 }),
-        (15, 6, ReadError::Range { at: 15 }),
-        (26, 106, ReadError::NotCanonical { at: 25 }),
-        (26, 0, ReadError::NotCanonical { at: 25 }),
-    ];
-    for (at, byte, fault) in inner {
+    for number in 0..4 {
+        let (at, byte, fault) = inner_fault(number);
         assert_eq!(rt; fault_of(rt.alloc(), &INNER, at, byte)?, Some(fault));
     }
     Ok(())
 }
 
+/// A blank page with a stamp.
+const STAMPED: [u8; 13] = [0, 0, 0, 0, 9, 0, 0, 0, 0, 0, 0, 0, 1];
+
+/// The low fence is the high one.
+const FENCES: [u8; 20] = [
+    2, 0, 0, 0, 2, 0, 0, 0, 0, 0, 0, 0, 0, 0, 1, 1, 1, 107, 1, 107,
+];
+
+/// A key on the high fence.
+const HIGH: [u8; 31] = [
+    2, 0, 0, 0, 2, 0, 0, 0, 0, 0, 0, 0, 0, 0, 1, 1, 0, 1, 107, 0, 1, 0, 0, 0, 7, 1, 107, 0, 0, 0, 8,
+];
+
+/// The same key twice.
+const TWICE: [u8; 36] = [
+    2, 0, 0, 0, 2, 0, 0, 0, 0, 0, 0, 0, 0, 0, 1, 1, 0, 0, 0, 2, 0, 0, 0, 7, 1, 107, 0, 0, 0, 8, 1,
+    107, 0, 0, 0, 9,
+];
+
+/// A before that spells the value of now.
+const SAME: [u8; 36] = [
+    1, 0, 0, 0, 1, 0, 0, 0, 0, 0, 0, 0, 5, 0, 1, 0, 0, 0, 0, 1, 1, 107, 0, 0, 0, 1, 0, 0, 0, 1, 0,
+    1, 118, 0, 1, 118,
+];
+
+/// A byte behind the image.
+const BEHIND: [u8; 14] = [0, 0, 0, 0, 9, 0, 0, 0, 0, 0, 0, 0, 0, 0];
+
+// Bytes, and the fault in them.
+fn spelled(number: u32) -> (&'static [u8], ReadError) {
+    match number {
+        0 => (&STAMPED, ReadError::Range { at: 5 }),
+        1 => (&FENCES, ReadError::NotCanonical { at: 18 }),
+        2 => (&HIGH, ReadError::NotCanonical { at: 25 }),
+        3 => (&TWICE, ReadError::NotCanonical { at: 30 }),
+        4 => (&SAME, ReadError::NotCanonical { at: 33 }),
+        _ => (&BEHIND, ReadError::NotCanonical { at: 13 }),
+    }
+}
+
 #[test]
 fn orders_are_kept(rt: HostRuntime) {
-    // A blank page with a stamp.
-    let blank = [0, 0, 0, 0, 9, 0, 0, 0, 0, 0, 0, 0, 1];
-    assert_eq!(rt;
-        decode(rt.alloc(), &blank).err(),
-        Some(ReadError::Range { at: 5 })
-    );
-    // The low fence is the high one.
-    let fences = [
-        2, 0, 0, 0, 2, 0, 0, 0, 0, 0, 0, 0, 0, 0, 1, 1, 1, 107, 1, 107,
-    ];
-    assert_eq!(rt;
-        decode(rt.alloc(), &fences).err(),
-        Some(ReadError::NotCanonical { at: 18 })
-    );
-    // A key on the high fence.
-    let high = [
-        2, 0, 0, 0, 2, 0, 0, 0, 0, 0, 0, 0, 0, 0, 1, 1, 0, 1, 107, 0, 1, 0, 0, 0, 7, 1, 107, 0, 0,
-        0, 8,
-    ];
-    assert_eq!(rt;
-        decode(rt.alloc(), &high).err(),
-        Some(ReadError::NotCanonical { at: 25 })
-    );
-    // The same key twice.
-    let twice = [
-        2, 0, 0, 0, 2, 0, 0, 0, 0, 0, 0, 0, 0, 0, 1, 1, 0, 0, 0, 2, 0, 0, 0, 7, 1, 107, 0, 0, 0, 8,
-        1, 107, 0, 0, 0, 9,
-    ];
-    assert_eq!(rt;
-        decode(rt.alloc(), &twice).err(),
-        Some(ReadError::NotCanonical { at: 30 })
-    );
-    // A before that spells the value of now, and a byte behind the image.
-    let same = [
-        1, 0, 0, 0, 1, 0, 0, 0, 0, 0, 0, 0, 5, 0, 1, 0, 0, 0, 0, 1, 1, 107, 0, 0, 0, 1, 0, 0, 0, 1,
-        0, 1, 118, 0, 1, 118,
-    ];
-    assert_eq!(rt;
-        decode(rt.alloc(), &same).err(),
-        Some(ReadError::NotCanonical { at: 33 })
-    );
-    let behind = [0, 0, 0, 0, 9, 0, 0, 0, 0, 0, 0, 0, 0, 0];
-    assert_eq!(rt;
-        decode(rt.alloc(), &behind).err(),
-        Some(ReadError::NotCanonical { at: 13 })
-    );
+    for number in 0..6 {
+        let (bytes, fault) = spelled(number);
+        assert_eq!(rt; decode(rt.alloc(), bytes).err(), Some(fault));
+    }
 }
 
 #[test]

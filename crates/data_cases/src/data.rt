@@ -1,11 +1,10 @@
 //! What no clause says: that the calls answer with ample memory, and the edges by example.
-use crate::{
-    Before, Body, ByteList, Child, ChildList, Group, Image, ItemList, Key, KeyPlace, LengthError,
-    Page, Record, Row, RowList, Stamp, TryCopy, Txn, Value, Vector, VectorEntry, Writer,
-};
 use std::alloc::Global;
-use std::process::Abort;
 use std::test::Fail;
+use tm_data::{
+    Before, Body, ByteList, Group, Image, ItemList, Key, KeyPlace, LengthError, Page, Record, Row,
+    RowList, Stamp, TryCopy, Txn, Value, Vector, VectorEntry, Writer,
+};
 
 #[test]
 fn keys_by_their_length(rt: HostRuntime) -> Result<(), Fail> {
@@ -118,46 +117,15 @@ fn rows_keep_their_order_and_their_size(rt: HostRuntime) -> Result<(), Fail> {
     Ok(())
 }
 
-fn inner(alloc: Global) -> Result<Body, Fail> {
-    let key = Key::new(alloc, b"m")?;
-    let mut entries = ChildList::new(alloc);
-    let place = entries.place(key.as_slice());
-    entries.set(Child { key, page: Page(9) }, place)?;
-    Ok(Body::Inner {
-        table: 1,
-        level: 1,
-        low: None,
-        high: None,
-        first: Page(8),
-        entries,
-    })
-}
-
-fn is_copied(rt: &impl Abort, change: &Record) -> Result<(), Fail> {
-    let copy = change.copy()?;
-    assert!(rt; copy == *change);
-    Ok(())
-}
-
 #[test]
-fn copied_changes_are_the_same(rt: HostRuntime) -> Result<(), Fail> {
-    let (page, prev) = (Page(7), Stamp(3));
-    let row = row(rt.alloc())?;
-    is_copied(
-        &rt,
-        &Record::RowSet {
-            page,
-            prev,
-            table: 1,
-            row,
-        },
-    )?;
-    let body = leaf(rt.alloc())?;
-    is_copied(&rt, &Record::Format { page, prev, body })?;
-    let body = inner(rt.alloc())?;
-    is_copied(&rt, &Record::Format { page, prev, body })?;
-    let at = Key::new(rt.alloc(), b"c")?;
-    is_copied(&rt, &Record::Cut { page, prev, at })?;
+fn a_copied_change_is_the_same(rt: HostRuntime) -> Result<(), Fail> {
+    let change = Record::Format {
+        page: Page(7),
+        prev: Stamp(3),
+        body: leaf(rt.alloc())?,
+    };
+    let copy = change.copy()?;
+    assert!(rt; copy == change);
     Ok(())
 }
 

@@ -1,8 +1,8 @@
 //! Worked cases, with ample memory.
-use crate::{Clock, StampsSpent};
 use std::alloc::Global;
 use std::test::Fail;
 use tm_base::{MAX_STAMP, Stamp, Vector, VectorEntry, Writer};
+use vs_clock::{Clock, StampsSpent};
 
 fn entry(writer: u32, stamp: u64) -> VectorEntry {
     VectorEntry {
