@@ -1,11 +1,11 @@
 #!/usr/bin/env python3
-"""Runs the built program once for each way in which a run can end, and compares its exit number, its line on
-standard error and what it wrote. Standard input may be a folder, which can't be read, and standard output the device
+"""Runs the built program once for each way in which a run can end, on lines that it refuses, and on each plain example,
+and compares its exit number, its line on standard error and what it wrote. Standard input may be a folder, which can't be read, and standard output the device
 that is always full.
 
 Run at the top of the repository, after the gate has built the program. `Full` isn't here: it takes 2^32 messages.
 """
-import os, resource, subprocess, sys, tempfile
+import glob, os, resource, subprocess, sys, tempfile
 
 PROGRAM = "crates/taurus/out/taurus"
 PLAIN = b"plain\ndo m1 1 begin\n"
@@ -24,8 +24,27 @@ RUNS = [
     ("a bad first line", [b"replay"], b"do m1 1 begin\n", False, None, 3, b"taurus: bad schedule at line 1\n", b""),
     ("input that can't be read", [b"replay"], None, False, None, 4, b"taurus: read fault\n", b""),
     ("output that is full", [b"replay"], PLAIN, True, None, 5, b"taurus: write fault\n", None),
+    ("a line that is too long", [b"replay"], b"plain\n" + b"x" * 9000, False, None, 3, b"taurus: bad schedule at line 2\n", b"ok\n"),
     ("little memory", [b"replay"], MANY, False, MEMORY, 6, b"taurus: no memory\n", None),
 ]
+
+# Lines that a plain schedule can't have after these two, or in place of the first: each ends the run there.
+BEGUN = b"plain\ndo m1 1 begin\n"
+BAD_LINES = [
+    b"", b"plain", b"plain ", b"deliver 0", b"deliver 1", b"deliver 4294967296", b"do m1 1 begin ", b"do m1  1 begin", b"do m2 1 begin",
+    b"do m1 1 abort", b"do m1 1 get 01 6b", b"do m1 1 get 65536 6b", b"do m1 1 get 1 -", b"do m1 1 get 1 6B", b"do m1 1 get 1 6",
+    b"do m1 1 put 1 6b", b"do m1 1 put 1 6b 76 76", b"do m1 1 put 1 6b ",
+]
+RUNS += [(f"the line {line!r}", [b"replay"], BEGUN + line + end, False, None, 3, b"taurus: bad schedule at line 3\n", b"ok\nm1 1 Begun 1.1\n")
+         for line in BAD_LINES for end in (b"\n", b"") if line or end]
+RUNS += [(f"the first line {line!r}", [b"replay"], line + b"\n", False, None, 3, b"taurus: bad schedule at line 1\n", b"")
+         for line in BAD_LINES if line != b"plain"]
+RUNS.append(("no line", [b"replay"], b"", False, None, 0, b"", b""))
+
+# Schedules with their transcripts.
+for path in sorted(glob.glob("examples/*.schedule") + glob.glob("examples/plain/*.schedule")):
+    with open(path, "rb") as schedule, open(path.removesuffix("schedule") + "transcript", "rb") as transcript:
+        RUNS.append((path, [b"replay"], schedule.read(), False, None, 0, b"", transcript.read()))
 
 
 def limit(memory):
