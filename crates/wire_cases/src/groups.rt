@@ -24,6 +24,27 @@ const FIELDS: [usize; 25] = [
     0, 4, 8, 16, 18, 22, 30, 32, 33, 37, 45, 47, 48, 52, 60, 61, 63, 64, 65, 66, 68, 69, 73, 81, 83,
 ];
 
+// Whether the group that the bytes give is written as these bytes.
+fn comes_back(alloc: Global, bytes: &[u8]) -> Result<bool, Fail> {
+    let group = decode(alloc, bytes)?;
+    let written = encode(alloc, &group)?;
+    Ok(written.as_slice() == bytes)
+}
+
+fn fault(alloc: Global, bytes: &[u8]) -> Option<ReadError> {
+    decode(alloc, bytes).err()
+}
+
+// The same of a part of a group, and how many records it has.
+fn part_comes_back(alloc: Global, bytes: &[u8]) -> Result<Option<usize>, Fail> {
+    let part = decode_part(alloc, bytes)?;
+    let written = encode_part(alloc, &part)?;
+    if written.as_slice() != bytes {
+        return Ok(None);
+    }
+    Ok(Some(part.records.len()))
+}
+
 /// What the bytes give with one byte changed.
 fn fault_of(
     alloc: Global,
@@ -35,31 +56,23 @@ fn fault_of(
     if let Some(place) = changed.get_mut(at) {
         *place = byte;
     }
-    Ok(decode(alloc, &changed).err())
+    Ok(fault(alloc, &changed))
 }
 
 #[test]
 fn groups_come_back(rt: HostRuntime) -> Result<(), Fail> {
-    let group = decode(rt.alloc(), &GROUP)?;
-    assert_eq!(rt; (group.writer.0, group.seq, group.stamp.0), (1, 1, 1));
-    assert_eq!(rt; group.records.len(), 1);
-    assert_eq!(rt; encode(rt.alloc(), &group)?.as_slice(), GROUP.as_slice());
-    let three = decode(rt.alloc(), &THREE)?;
-    assert_eq!(rt; three.records.len(), 3);
-    assert_eq!(rt; encode(rt.alloc(), &three)?.as_slice(), THREE.as_slice());
+    assert!(rt; comes_back(rt.alloc(), &GROUP)?);
+    assert!(rt; comes_back(rt.alloc(), &THREE)?);
     Ok(())
 }
 
+/// A group's part of no record.
+const NONE: [u8; 20] = [0, 0, 0, 1, 0, 0, 0, 1, 0, 0, 0, 0, 0, 0, 0, 1, 0, 0, 0, 0];
+
 #[test]
 fn parts_may_have_no_record(rt: HostRuntime) -> Result<(), Fail> {
-    let none = [0, 0, 0, 1, 0, 0, 0, 1, 0, 0, 0, 0, 0, 0, 0, 1, 0, 0, 0, 0];
-    assert_eq!(rt;
-        decode(rt.alloc(), &none).err(),
-        Some(ReadError::Range { at: 18 })
-    );
-    let part = decode_part(rt.alloc(), &none)?;
-    assert_eq!(rt; part.records.len(), 0);
-    assert_eq!(rt; encode_part(rt.alloc(), &part)?.as_slice(), none.as_slice());
+    assert_eq!(rt; fault(rt.alloc(), &NONE), Some(ReadError::Range { at: 18 }));
+    assert_eq!(rt; part_comes_back(rt.alloc(), &NONE)?, Some(0));
     Ok(())
 }
 
@@ -97,12 +110,12 @@ fn records_fault(number: u32) -> (usize, u8, ReadError) {
 #[test]
 fn faults_are_named(rt: HostRuntime) -> Result<(), Fail> {
     for number in 0..10 {
-        let (at, byte, fault) = row_fault(number);
-        assert_eq!(rt; fault_of(rt.alloc(), &GROUP, at, byte)?, Some(fault));
+        let (at, byte, wanted) = row_fault(number);
+        assert_eq!(rt; fault_of(rt.alloc(), &GROUP, at, byte)?, Some(wanted));
     }
     for number in 0..9 {
-        let (at, byte, fault) = records_fault(number);
-        assert_eq!(rt; fault_of(rt.alloc(), &THREE, at, byte)?, Some(fault));
+        let (at, byte, wanted) = records_fault(number);
+        assert_eq!(rt; fault_of(rt.alloc(), &THREE, at, byte)?, Some(wanted));
     }
     Ok(())
 }
@@ -113,13 +126,13 @@ fn other_spellings_are_refused(rt: HostRuntime) -> Result<(), Fail> {
     same.truncate(48);
     same.extend_from_slice(&[0, 1, 118])?;
     assert_eq!(rt;
-        decode(rt.alloc(), &same).err(),
+        fault(rt.alloc(), &same),
         Some(ReadError::NotCanonical { at: 48 })
     );
     let mut more = GROUP.to_vec(rt.alloc())?;
     more.push(0)?;
     assert_eq!(rt;
-        decode(rt.alloc(), &more).err(),
+        fault(rt.alloc(), &more),
         Some(ReadError::NotCanonical { at: 50 })
     );
     Ok(())
@@ -128,7 +141,7 @@ fn other_spellings_are_refused(rt: HostRuntime) -> Result<(), Fail> {
 #[test]
 fn cut_groups_are_truncated(rt: HostRuntime) {
     assert_eq!(rt;
-        decode(rt.alloc(), &GROUP[..49]).err(),
+        fault(rt.alloc(), &GROUP[..49]),
         Some(ReadError::Truncated { at: 48 })
     );
     let mut field = 0;
@@ -139,7 +152,7 @@ fn cut_groups_are_truncated(rt: HostRuntime) {
             }
         }
         assert_eq!(rt;
-            decode(rt.alloc(), &THREE[..end]).err(),
+            fault(rt.alloc(), &THREE[..end]),
             Some(ReadError::Truncated { at: field })
         );
     }
@@ -170,14 +183,10 @@ fn rows_of(alloc: Global, count: u8, last: u16) -> Result<Vec<u8>, AllocError> {
 fn the_greatest_group(rt: HostRuntime) -> Result<(), Fail> {
     let full = rows_of(rt.alloc(), 122, 26)?;
     assert_eq!(rt; full.len(), 65536);
-    let group = decode(rt.alloc(), &full)?;
-    assert_eq!(rt;
-        encode(rt.alloc(), &group)?.as_slice() == full.as_slice(),
-        true
-    );
+    assert!(rt; comes_back(rt.alloc(), &full)?);
     let more = rows_of(rt.alloc(), 122, 27)?;
     assert_eq!(rt;
-        decode(rt.alloc(), &more).err(),
+        fault(rt.alloc(), &more),
         Some(ReadError::NotCanonical { at: 0 })
     );
     Ok(())

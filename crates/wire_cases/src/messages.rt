@@ -131,13 +131,23 @@ fn spelled(alloc: Global, kind: u8, body: &[u8]) -> Result<Vec<u8>, AllocError> 
     Ok(bytes)
 }
 
+// Whether the message that the bytes give is written as these bytes.
+fn comes_back(alloc: Global, bytes: &[u8]) -> Result<bool, Fail> {
+    let message = decode(alloc, bytes)?;
+    let written = encode(alloc, &message)?;
+    Ok(written.as_slice() == bytes)
+}
+
+fn fault(alloc: Global, bytes: &[u8]) -> Option<ReadError> {
+    decode(alloc, bytes).err()
+}
+
 #[test]
 fn each_kind_comes_back(rt: HostRuntime) -> Result<(), Fail> {
     for kind in 1..32 {
         let (body, _) = body_of(kind);
         let bytes = spelled(rt.alloc(), kind, body)?;
-        let message = decode(rt.alloc(), &bytes)?;
-        assert_eq!(rt; encode(rt.alloc(), &message)?.as_slice(), bytes.as_slice());
+        assert!(rt; comes_back(rt.alloc(), &bytes)?);
     }
     Ok(())
 }
@@ -149,12 +159,12 @@ fn cut_and_longer_messages_are_refused(rt: HostRuntime) -> Result<(), Fail> {
         let mut bytes = spelled(rt.alloc(), kind, body)?;
         let end = bytes.len();
         assert_eq!(rt;
-            decode(rt.alloc(), &bytes[..end.saturating_sub(1)]).err(),
+            fault(rt.alloc(), &bytes[..end.saturating_sub(1)]),
             Some(ReadError::Truncated { at: last })
         );
         bytes.push(0)?;
         assert_eq!(rt;
-            decode(rt.alloc(), &bytes).err(),
+            fault(rt.alloc(), &bytes),
             Some(ReadError::NotCanonical { at: end })
         );
     }
@@ -227,7 +237,7 @@ fn fault_of(alloc: Global, kind: u8, at: usize, byte: u8) -> Result<Option<ReadE
     if let Some(place) = bytes.get_mut(at) {
         *place = byte;
     }
-    Ok(decode(alloc, &bytes).err())
+    Ok(fault(alloc, &bytes))
 }
 
 // A kind, a place, the byte put there, and the fault: of the head.
@@ -247,8 +257,8 @@ fn head_fault(number: u32) -> (u8, usize, u8, ReadError) {
 #[test]
 fn faults_of_the_head_are_named(rt: HostRuntime) -> Result<(), Fail> {
     for number in 0..8 {
-        let (kind, at, byte, fault) = head_fault(number);
-        assert_eq!(rt; fault_of(rt.alloc(), kind, at, byte)?, Some(fault));
+        let (kind, at, byte, wanted) = head_fault(number);
+        assert_eq!(rt; fault_of(rt.alloc(), kind, at, byte)?, Some(wanted));
     }
     Ok(())
 }
@@ -279,8 +289,8 @@ fn part_fault(number: u32) -> (u8, usize, u8, ReadError) {
 #[test]
 fn faults_of_parts_are_named(rt: HostRuntime) -> Result<(), Fail> {
     for number in 0..17 {
-        let (kind, at, byte, fault) = part_fault(number);
-        assert_eq!(rt; fault_of(rt.alloc(), kind, at, byte)?, Some(fault));
+        let (kind, at, byte, wanted) = part_fault(number);
+        assert_eq!(rt; fault_of(rt.alloc(), kind, at, byte)?, Some(wanted));
     }
     Ok(())
 }
@@ -323,8 +333,8 @@ fn list_fault(number: u32) -> (u8, usize, u8, ReadError) {
 #[test]
 fn faults_of_lists_are_named(rt: HostRuntime) -> Result<(), Fail> {
     for number in 0..29 {
-        let (kind, at, byte, fault) = list_fault(number);
-        assert_eq!(rt; fault_of(rt.alloc(), kind, at, byte)?, Some(fault));
+        let (kind, at, byte, wanted) = list_fault(number);
+        assert_eq!(rt; fault_of(rt.alloc(), kind, at, byte)?, Some(wanted));
     }
     Ok(())
 }
@@ -345,10 +355,6 @@ fn grant_of(alloc: Global, count: u16) -> Result<Vec<u8>, AllocError> {
 #[test]
 fn a_grant_of_many_tags(rt: HostRuntime) -> Result<(), Fail> {
     let bytes = grant_of(rt.alloc(), 4096)?;
-    let message = decode(rt.alloc(), &bytes)?;
-    assert_eq!(rt;
-        encode(rt.alloc(), &message)?.as_slice() == bytes.as_slice(),
-        true
-    );
+    assert!(rt; comes_back(rt.alloc(), &bytes)?);
     Ok(())
 }
