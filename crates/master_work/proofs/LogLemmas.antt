@@ -1,9 +1,17 @@
 -- The stamps of a log rise.
-use Rattle.std.proofs.Common.{◌≡◌, ◌≤◌, ◌+◌, ◌-◌, ℕ, Bool, true, false, cond, nat_eq, List, [], ◌∷◌, length, slice_get, suc, zero, refl, ap, ◌∙◌, arith}
+use Rattle.std.proofs.Common.{◌≡◌, ◌≤◌, ◌<◌, ◌+◌, ◌-◌, ℕ, Bool, true, false, cond, nat_eq, List, [], ◌∷◌, length, slice_get, Option, Some, None, suc, zero, refl, ap, sym, ◌∙◌, arith}
 use Rattle.std.proofs.lemmas.Bool.Decides.{nat_tests}
+use Rattle.std.specs.List.{AllByRecursion}
+use Rattle.tm_data.specs.declared.log.Group.{Group}
+use Rattle.tm_data.specs.declared.log.Record.{Record}
 use Rattle.tm_data.specs.declared.transaction.Writer.{Writer}
+use Rattle.tm_data.specs.Records.{page_of}
+use Rattle.master_model.specs.State.{Work}
+use Rattle.master_model.specs.Logging.{with_change, with_changes, with_group}
+use Rattle.vs_clock.specs.State.{ticked, told}
+use Rattle.master_work.specs.Parts.{Timed}
 use Rattle.log_writer.specs.declared.logged.Logged.{Logged}
-use Rattle.log_writer.specs.Log.{Log, IsLog, InOrder, durable_count, durable_stamp, last_stamp, stamp_at, stamp_of}
+use Rattle.log_writer.specs.Log.{Log, IsLog, InOrder, appended, durable_count, durable_stamp, last_stamp, stamp_at, stamp_of}
 
 -- the last stamp, by recursion
 abbrev last_of : ℕ → List Logged → ℕ
@@ -41,3 +49,13 @@ stamp_within writer seq before groups n h = by (nat_eq n 0)
 -- The stamp of the last durable group is at most that of the last one.
 pub durable_within : (log : Log) (stamp : ℕ) → IsLog log → last_stamp log ≤ stamp → durable_stamp log ≤ stamp
 durable_within log stamp h last = omega (arith, stamp_within log.writer (log.gone + 1) log.gone_stamp log.groups (durable_count log.groups) h, last_is log.gone_stamp log.groups, last)
+
+-- Records that change no page change nothing.
+pub plain_changes : (w : Work) (rs : List Record) (stamp : ℕ) → AllByRecursion (λ (r : Record). page_of r ≡ None) rs → with_changes w rs stamp ≡ w
+plain_changes w [] stamp h = refl
+plain_changes w (r ∷ rs) stamp h = ap (λ (o : Option ℕ). with_changes (with_change w r stamp o) rs stamp) h.0 ∙ plain_changes w rs stamp h.1
+
+-- A group whose records change no page changes the clock and the log alone.
+pub logged_plain : (w : Work) (t : Timed) (g : Group) → AllByRecursion (λ (r : Record). page_of r ≡ None) g.records → t ≡ record { clock = told (ticked w.clock); log = appended w.log g } → record w { clock = t.clock; log = t.log } ≡ with_group w g
+logged_plain w t g h is =
+    ap (λ (z : Timed). record w { clock = z.clock; log = z.log }) is ∙ sym (plain_changes (record w { clock = told (ticked w.clock); log = appended w.log g }) g.records g.stamp.0 h)

@@ -1,20 +1,29 @@
 -- The transactions of sessions, and the sessions by their numbers.
-use Rattle.std.proofs.Common.{◌≡◌, ◌≤◌, ◌+◌, ℕ, Bool, true, false, cond, List, [], ◌∷◌, Some, None, refl, ap, sym, ◌∙◌, arith}
-use Rattle.std.specs.Prelude.{T, nat_eq, not, ◌&&◌, ◌||◌}
+use Rattle.std.proofs.Common.{◌≡◌, ◌≤◌, ◌<◌, ◌+◌, ℕ, Bool, true, false, cond, List, [], ◌∷◌, Option, Some, None, refl, ap, sym, subst, ◌∙◌, arith}
+use Rattle.std.specs.Prelude.{T, nat_eq, not, ◌&&◌, ◌||◌, IsSome, OnOk, OnErr}
+use Rattle.std.specs.declared.result.Result.{Result}
+use Rattle.std.specs.declared.result.Result.TheVariants.{Ok, Err}
 use Rattle.std.specs.List.{list_any}
 use Rattle.std.specs.Ordering.{nat_cmp, eq_by_cmp, is_lt}
-use Rattle.std.specs.FinMap.{FinMap, get, insert, empty, entries, entries_sorted, gets, get-empty, get-entries}
+use Rattle.std.specs.FinMap.{FinMap, get, insert, remove, empty, entries, entries_sorted, gets, get-empty, get-entries, same_map, nat_cmp-IsAntisymmetric}
+use Rattle.std.specs.Cmp.{nat_cmp_total}
 use Rattle.std.specs.FinMap.Entries.{below_all, find, is_sorted}
 use Rattle.std.proofs.lemmas.Bool.Decides.{nat_tests}
 use Rattle.master_model.specs.declared.session.Own.{Own}
 use Rattle.master_model.specs.Fates.{is_open_in, is_over}
-use Rattle.master_work.specs.Parts.{IsIndexed}
+use Rattle.master_work.specs.Parts.{Begun, IsIndexed}
 
 get_here : {X : Type 0} (m : FinMap nat_cmp X) (k : ℕ) (x : X) → get (insert m k x) k ≡ Some x
 get_here m k x = grind (arith, nat_tests, gets)
 
 get_other : {X : Type 0} (m : FinMap nat_cmp X) (k q : ℕ) (x : X) → (q ≡ k → ⊥) → get (insert m k x) q ≡ get m q
 get_other m k q x other = grind (arith, nat_tests, gets)
+
+cut_here : {X : Type 0} (m : FinMap nat_cmp X) (k : ℕ) → get (remove m k) k ≡ None
+cut_here m k = grind (arith, nat_tests, gets)
+
+cut_other : {X : Type 0} (m : FinMap nat_cmp X) (k q : ℕ) → (q ≡ k → ⊥) → get (remove m k) q ≡ get m q
+cut_other m k q other = grind (arith, nat_tests, gets)
 
 same : (q k : ℕ) → nat_eq q k ≡ true → q ≡ k
 same q k is = grind (arith, nat_tests)
@@ -93,6 +102,97 @@ kept_indexed begun session old own owns places h was keeps = record {
     there_by number q false is there =
         let found = h.there number q there in
         (found.0, get_other owns session q own (apart q session is) ∙ found.1, found.2)
+
+-- A value that was set for the time being leaves nothing behind.
+pub set_over : {X : Type 0} (m : FinMap nat_cmp X) (k : ℕ) (x y : X) → insert (insert m k x) k y ≡ insert m k y
+set_over m k x y = same_map nat_cmp_total nat_cmp-IsAntisymmetric _ _ (λ q. grind (arith, nat_tests, gets))
+
+-- A value that is set to what it is.
+pub set_same : {X : Type 0} (m : FinMap nat_cmp X) (k : ℕ) (x : X) → get m k ≡ Some x → insert m k x ≡ m
+set_same m k x is = same_map nat_cmp_total nat_cmp-IsAntisymmetric _ _ (λ q. by q (nat_eq q k) refl)
+  where
+    by : (q : ℕ) (b : Bool) → nat_eq q k ≡ b → get (insert m k x) q ≡ get m q
+    by q true at = ap (get (insert m k x)) (same q k at) ∙ (get_here m k x ∙ (sym is ∙ ap (get m) (sym (same q k at))))
+    by q false at = get_other m k q x (apart q k at)
+
+-- A session's transaction is taken out for the time being, and put back changed.
+pub put_there : {X : Type 0} (m n : FinMap nat_cmp X) (k : ℕ) (x : X) → n ≡ insert m k x → IsSome (get n k)
+put_there m n k x is = subst (λ (o : Option _). IsSome o) (sym (ap (λ t. get t k) is ∙ get_here m k x)) refl
+
+replaced : {X : Type 0} (m n p : FinMap nat_cmp X) (k : ℕ) (x y : X) → n ≡ insert m k x → p ≡ insert n k y → p ≡ insert m k y
+replaced m n p k x y first second = second ∙ (ap (λ t. insert t k y) first ∙ set_over m k x y)
+
+pub put_back_indexed : (begun k : ℕ) (old new x : Own) (owns n p : FinMap nat_cmp Own) (places : FinMap nat_cmp ℕ) → IsIndexed begun owns places → Some old ≡ get owns k → new.number ≡ old.number → n ≡ insert owns k x → p ≡ insert n k new → IsIndexed begun p places
+put_back_indexed begun k old new x owns n p places h was keeps first second =
+    subst (λ (m : FinMap nat_cmp Own). IsIndexed begun m places) (sym (replaced owns n p k x new first second)) (kept_indexed begun k old new owns places h (sym was) keeps)
+
+-- so many were begun, and these are the sessions'
+abbrev with_owns : ℕ → FinMap nat_cmp Own → Begun
+with_owns begun owns = record { begun = begun; owns = owns }
+
+pub put_back_changed : (b : Begun) (begun : ℕ) (owns n p : FinMap nat_cmp Own) (k session : ℕ) (x old own new given : Own) → with_owns begun owns ≡ b → k ≡ session → Some old ≡ get owns k → get b.owns session ≡ Some own
+    → n ≡ insert owns k x → p ≡ insert n k new → (old ≡ own → new ≡ given) → with_owns begun p ≡ with_owns b.begun (insert b.owns session given)
+put_back_changed b begun owns n p k session x old own new given view key was at first second same_as =
+    let map_is : owns ≡ b.owns = ap (λ (z : Begun). z.owns) view in
+    let both : Some old ≡ Some own = was ∙ ((λ i. get (map_is i) (key i)) ∙ at) in
+    let one : old ≡ own = cc (both) in
+    let put : p ≡ insert b.owns session given = replaced owns n p k x new first second ∙ (λ j. insert (map_is j) (key j) (same_as one j)) in
+    λ i. with_owns ((view i).begun) (put i)
+
+pub put_back_same : (b : Begun) (begun : ℕ) (owns n p : FinMap nat_cmp Own) (k : ℕ) (x old new : Own) → with_owns begun owns ≡ b → Some old ≡ get owns k → n ≡ insert owns k x → p ≡ insert n k new → new ≡ old → with_owns begun p ≡ b
+put_back_same b begun owns n p k x old new view was first second same_as =
+    ap (with_owns begun) (replaced owns n p k x new first second ∙ (ap (insert owns k) same_as ∙ set_same owns k old (sym was))) ∙ view
+
+-- What follows where a call succeeds, and where it fails.
+pub then_ok : {A E P Q : Type 0} (r : Result A E) → (P → Q) → OnOk r P → OnOk r Q
+then_ok (Ok x) f p = f p
+then_ok (Err e) f p = tt
+
+pub then_err : {A E P Q : Type 0} (r : Result A E) → (P → Q) → OnErr r P → OnErr r Q
+then_err (Ok x) f p = tt
+then_err (Err e) f p = f p
+
+-- A number that has no value is taken away.
+pub cut_none : {X : Type 0} (m : FinMap nat_cmp X) (k : ℕ) → get m k ≡ None → m ≡ remove m k
+cut_none m k is = same_map nat_cmp_total nat_cmp-IsAntisymmetric _ _ (λ q. by q (nat_eq q k) refl)
+  where
+    by : (q : ℕ) (b : Bool) → nat_eq q k ≡ b → get m q ≡ get (remove m k) q
+    by q true at = ap (get m) (same q k at) ∙ (is ∙ (sym (cut_here m k) ∙ ap (get (remove m k)) (sym (same q k at))))
+    by q false at = sym (cut_other m k q (apart q k at))
+
+-- A session's transaction goes, and its number.
+pub freed_indexed : (begun session : ℕ) (own : Own) (owns : FinMap nat_cmp Own) (places : FinMap nat_cmp ℕ) → IsIndexed begun owns places → get owns session ≡ Some own → IsIndexed begun (remove owns session) (remove places own.number)
+freed_indexed begun session own owns places h was = record {
+  below = λ q o there. h.below q o (other q o there);
+  found = λ q o there. cut_other places own.number o.number (named q o there) ∙ h.found q o (other q o there);
+  there = λ number q there. there_by number q (nat_eq number own.number) refl there;
+}
+  where
+    gone : (q : ℕ) (o : Own) → get (remove owns session) q ≡ Some o → q ≡ session → ⊥
+    gone q o there one = let none : get (remove owns session) q ≡ None = ap (get (remove owns session)) one ∙ cut_here owns session in absurd (cc (none, there))
+
+    other : (q : ℕ) (o : Own) → get (remove owns session) q ≡ Some o → get owns q ≡ Some o
+    other q o there = sym (cut_other owns session q (gone q o there)) ∙ there
+
+    -- no other session has its number
+    named : (q : ℕ) (o : Own) → get (remove owns session) q ≡ Some o → o.number ≡ own.number → ⊥
+    named q o there one =
+        let at : Some q ≡ Some session = sym (h.found q o (other q o there)) ∙ (ap (get places) one ∙ h.found session own was) in
+        let is : q ≡ session = cc (at) in gone q o there is
+
+    still : (number : ℕ) → (number ≡ own.number → ⊥) → (q : ℕ) (o : Own) → get owns q ≡ Some o → o.number ≡ number → q ≡ session → ⊥
+    still number differs q o at name one =
+        let both : Some o ≡ Some own = sym at ∙ (ap (get owns) one ∙ was) in
+        let mine : o ≡ own = cc (both) in
+        differs (sym name ∙ ap (λ (x : Own). x.number) mine)
+
+    there_by : (number q : ℕ) (b : Bool) → nat_eq number own.number ≡ b → get (remove places own.number) number ≡ Some q → (o : Own) × (get (remove owns session) q ≡ Some o) × (o.number ≡ number)
+    there_by number q true is there =
+        let none : get (remove places own.number) number ≡ None = ap (get (remove places own.number)) (same number own.number is) ∙ cut_here places own.number in absurd (cc (none, there))
+    there_by number q false is there =
+        let differs = apart number own.number is in
+        let found = h.there number q (sym (cut_other places own.number number differs) ∙ there) in
+        (found.0, cut_other owns session q (still number differs q found.0 found.1 found.2) ∙ found.1, found.2)
 
 -- ---- entries
 

@@ -1,13 +1,13 @@
 //! The clock of a writer, and its log.
-ghost use Rattle.std.specs.Prelude.{◌≡◌, ◌≤◌, ◌-◌, ◌^◌, IfOk, OnOk, OnErr};
+ghost use Rattle.std.specs.Prelude.{◌≡◌, ◌≤◌, ◌<◌, ◌+◌, ◌-◌, ◌^◌, IfOk, OnOk, OnErr};
 ghost use Rattle.tm_data.specs.Vectors.{greatest};
-ghost use Rattle.vs_clock.specs.State.{started, heard_scalar, heard_vector, sending};
-ghost use Rattle.log_writer.specs.Log.{durable_seq, durable_stamp, new_log, settled};
+ghost use Rattle.vs_clock.specs.State.{started, heard_scalar, heard_vector, sending, ticked, told};
+ghost use Rattle.log_writer.specs.Log.{appended, durable_seq, durable_stamp, lacking, last_seq, last_stamp, new_log, settled};
 
 use log_writer::LogWriter;
 use std::alloc::Global;
 use std::marker::Model;
-use tm_base::{Mem, Stamp, TryCopy, Vector, Writer};
+use tm_base::{Group, Mem, RecordList, Stamp, TryCopy, Vector, Writer};
 use vs_clock::Clock;
 
 /// A writer's clock and its log. No group has a stamp above the clock's scalar. Contracts see the state of the clock
@@ -91,6 +91,13 @@ impl ClockedLog {
         self.clock = clock;
     }
 
+    /// The own entry of the vector for sending: the stamp of the last durable group.
+    fn own_entry(&self) -> Stamp
+        ensures { result.0 ≡ durable_stamp self.now.log }
+    {
+        self.log.durable()
+    }
+
     /// The vector for sending, whose own entry is the stamp of the last durable group.
     pub fn vector(&self) -> Mem<Vector>
         ensures value { IfOk result (λ vector. vector ≡ sending self.now.clock (durable_stamp self.now.log)) }
@@ -98,7 +105,7 @@ impl ClockedLog {
     {
         let _ = self.clock.scalar();
         let _ = self.log.last_seq();
-        let vector = self.clock.vector_for_sending(self.log.durable())?;
+        let vector = self.clock.vector_for_sending(self.own_entry())?;
         Ok(vector)
     }
 
@@ -121,5 +128,57 @@ impl ClockedLog {
         ensures { result ≡ durable_seq self.now.log }
     {
         self.log.durable_seq()
+    }
+
+    /// The number of the last group, 0 while there is none.
+    pub fn last_seq(&self) -> u32
+        ensures { result ≡ last_seq self.now.log }
+    {
+        self.log.last_seq()
+    }
+
+    /// The stamp of the last group, 0 while there is none.
+    pub fn last_stamp(&self) -> Stamp
+        ensures { result.0 ≡ last_stamp self.now.log }
+    {
+        self.log.last_stamp()
+    }
+
+    /// The least log store that hasn't acknowledged the group of that number, none where all three have. A group that
+    /// isn't logged yet no store has.
+    pub fn lacking(&self, seq: u32) -> Option<u8>
+        ensures { result ≡ lacking self.now.log seq }
+    {
+        self.log.lacking(seq)
+    }
+
+    /// The next group of these records: it has the next number and the next stamp, and tells what was learnt since the
+    /// one before. It isn't logged yet.
+    pub fn next(&self, records: RecordList) -> Mem<Group>
+        requires number { last_seq self.now.log + 1 < 2 ^ 32 }
+        ensures { IfOk result (λ group. group ≡ record { writer = self.now.log.writer; seq = last_seq self.now.log + 1; stamp = record { 0 = self.now.clock.scalar + 1 }; learnt = self.now.clock.untold; records = records }) }
+    {
+        Ok(Group {
+            writer: self.log.writer(),
+            seq: self.log.last_seq() + 1,
+            stamp: Stamp(self.clock.scalar().0 + 1),
+            learnt: self.clock.learnt()?,
+            records,
+        })
+    }
+
+    /// Logs the next group. Its stamp is at most `2^63 - 1`. With want of memory nothing changes.
+    pub fn log(&mut self, group: Group) -> Mem<()>
+        requires own { group.writer ≡ self.old.log.writer }
+        requires number { group.seq ≡ last_seq self.old.log + 1 }
+        requires next { group.stamp.0 ≡ self.old.clock.scalar + 1 }
+        requires stamp { group.stamp.0 ≤ 2 ^ 63 - 1 }
+        ensures ok { OnOk result (self.new ≡ record { clock = told (ticked self.old.clock); log = appended self.old.log group }) }
+        ensures err { OnErr result (self.new ≡ self.old) }
+    {
+        self.log.append(group)?;
+        let _ = self.clock.tick();
+        self.clock.told();
+        Ok(())
     }
 }

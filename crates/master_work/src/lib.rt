@@ -6,10 +6,13 @@
 
 mod answer;
 mod clocked_log;
+mod logging;
 mod readers;
 mod sessions;
 mod store_count;
 mod tags;
+#[cfg(test)]
+mod tests;
 mod work_state;
 
 pub use answer::Answer;

@@ -3,6 +3,7 @@ ghost use Rattle.std.specs.Prelude.{◌≡◌, ◌∷◌, [], IfOk};
 ghost use Rattle.master_model.specs.State.{message, settled, store_of, to_locks, vector_of};
 ghost use Rattle.master_model.specs.Fates.{has_ended, is_ended, is_own};
 ghost use Rattle.master_model.specs.Paths.{read_page};
+ghost use Rattle.master_model.specs.Reads.{txn_numbered};
 
 use crate::WorkState;
 use tm_base::{Mem, Message, Node, Note, Page, Stamp, Txn, Vector, Writer};
@@ -63,6 +64,16 @@ impl WorkState {
         ensures { result.0 ≡ settled self.now }
     {
         self.timed.settled()
+    }
+
+    /// The own transaction of this number.
+    pub fn txn_numbered(&self, number: u32) -> Txn
+        ensures { result ≡ txn_numbered self.now number }
+    {
+        Txn {
+            writer: self.timed.writer(),
+            number,
+        }
     }
 
     /// Whether a transaction is this writer's.

@@ -1,17 +1,18 @@
 //! The transactions of a master's sessions.
-ghost use Rattle.std.specs.Prelude.{◌≡◌, ◌<◌, ◌+◌, ◌^◌, None, IfOk, OnOk, OnErr, IfSome, nat_eq};
+ghost use Rattle.std.specs.Prelude.{◌≡◌, ◌<◌, ◌+◌, ◌^◌, Some, None, IsSome, IfOk, OnOk, OnErr, IfSome, nat_eq};
 ghost use Rattle.std.specs.List.{list_any};
 ghost use Rattle.std.specs.Option.{option_copied};
 ghost use Rattle.std.specs.FinMap as fin;
 ghost use Rattle.std.specs.FinSet as sets;
 ghost use Rattle.master_model.specs.Fates.{is_over, is_open_in};
+ghost use Rattle.master_model.specs.declared.session.Own.{Own};
 ghost use Rattle.master_model.specs.declared.session.Progress.TheVariants.{Active};
 
 use master_model::{Own, Progress};
 use master_parts::NumberTable;
 use std::alloc::Global;
 use std::marker::Model;
-use tm_base::{Mem, RowSet};
+use tm_base::{Mem, RowKey, RowSet};
 
 /// The transaction of each session that has one, and how many were begun: they are numbered from 1, each with a number
 /// of its own, by which its session is found. Contracts see how many were begun, and the finite map from session to
@@ -44,6 +45,15 @@ pub fn is_over(durable: u32, progress: &Progress) -> bool
         Progress::Active => false,
         Progress::Undoing { .. } => false,
         Progress::Ended { seq, .. } => *seq <= durable,
+    }
+}
+
+/// What stands for a session's transaction while that is changed.
+fn nothing(alloc: Global) -> Own {
+    Own {
+        number: 0,
+        written: RowSet::new(alloc),
+        progress: Progress::Active,
     }
 }
 
@@ -95,6 +105,55 @@ impl Sessions {
         self.places.insert(number, session);
         self.begun = number;
         Ok(number)
+    }
+
+    /// How far the transaction of a session has come. It takes no memory.
+    pub fn set_progress(&mut self, session: u16, progress: Progress)
+        requires { IsSome (fin.get self.old.owns session) }
+        ensures { (own : Own) → fin.get self.old.owns session ≡ Some own
+            → self.new ≡ record self.old { owns = fin.insert self.old.owns session (record own { progress = progress }) } }
+    {
+        let session = u32::from(session);
+        let Some(own) = self.owns.replace(session, nothing(self.alloc)) else {
+            return;
+        };
+        self.owns.replace(
+            session,
+            Own {
+                number: own.number,
+                written: own.written,
+                progress,
+            },
+        );
+    }
+
+    /// The transaction of a session has written a row. With want of memory nothing changes.
+    pub fn add_written(&mut self, session: u16, row: RowKey) -> Mem<()>
+        requires { IsSome (fin.get self.old.owns session) }
+        ensures ok { (own : Own) → fin.get self.old.owns session ≡ Some own
+            → OnOk result (self.new ≡ record self.old { owns = fin.insert self.old.owns session (record own { written = sets.insert own.written row }) }) }
+        ensures err { OnErr result (self.new ≡ self.old) }
+    {
+        let session = u32::from(session);
+        let Some(mut own) = self.owns.replace(session, nothing(self.alloc)) else {
+            return Ok(());
+        };
+        let added = own.written.insert(row);
+        self.owns.replace(session, own);
+        added
+    }
+
+    /// A session has no transaction any more. It takes no memory.
+    pub fn free(&mut self, session: u16)
+        ensures { self.new ≡ record self.old { owns = fin.remove self.old.owns session } }
+    {
+        let session = u32::from(session);
+        let Some(own) = self.owns.get(session) else {
+            return;
+        };
+        let number = own.number;
+        self.owns.remove(session);
+        self.places.remove(number);
     }
 
     /// Whether the transaction of this number is open, where groups are durable up to this number: it is a session's,
