@@ -1,14 +1,13 @@
 -- What is asked of a log is answered after its durable groups went as before.
-use Rattle.std.proofs.Common.{◌≡◌, ◌≤◌, ◌<◌, ◌+◌, ◌-◌, ℕ, Bool, true, false, cond, ◌&&◌, not, nat_eq, nat_le, nat_lt, List, [], ◌∷◌, length, map, take, drop, slice_get, length-drop, Option, Some, None, suc, zero, refl, sym, subst, ap, ◌∙◌, arith}
-use Rattle.std.specs.List.{filter, prefix_len}
+use Rattle.std.proofs.Common.{◌≡◌, ◌≤◌, ◌<◌, ◌+◌, ◌-◌, ℕ, Bool, true, false, cond, ◌&&◌, not, nat_eq, nat_le, nat_lt, List, [], ◌∷◌, map, take, drop, slice_get, length-drop, Option, Some, None, suc, zero, refl, sym, ap, ◌∙◌, arith}
+use Rattle.std.specs.List.{filter}
 use Rattle.std.proofs.lemmas.Bool.Decides.{nat_tests}
-use Rattle.tm_data.specs.declared.log.Group.{Group}
 use Rattle.log_writer.specs.declared.acks.Acks.{Acks}
 use Rattle.log_writer.specs.declared.logged.Logged.{Logged}
 use Rattle.log_writer.specs.Acks.{all_acks, has, has_all, least_lacking}
 use Rattle.log_writer.specs.Log.{Log, IsLog, durable_count, durable_seq, durable_stamp, is_marked, lacking, lacking_of, last_seq, last_stamp, let_go, marked_of, numbered, placed, resent, settled, settled_before, stamp_at, unacked, was_let_go}
 use Rattle.log_writer.proofs.OrderLemmas.{last_dropped, last_is, last_of, order_dropped}
-use Rattle.log_writer.proofs.PrefixLemmas.{durable_short, prefix_split}
+use Rattle.log_writer.proofs.PrefixLemmas.{durable_short}
 
 -- ---- behind a front
 

@@ -2,3 +2,4 @@ mod PrefixLemmas
 pub mod OrderLemmas
 pub mod LetGoLemmas
 mod ResendLemmas
+mod TakenBackLemmas

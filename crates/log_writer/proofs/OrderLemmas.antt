@@ -1,5 +1,5 @@
 -- Facts on the order of the groups.
-use Rattle.std.proofs.Common.{◌≡◌, ◌≤◌, ◌<◌, ◌+◌, ◌-◌, ◌^◌, ℕ, Bool, true, false, cond, ◌&&◌, ◌||◌, nat_eq, nat_lt, List, [], ◌∷◌, ◌++◌, length, map, take, drop, set, slice_get, get_or, length-set, length-drop, Option, Some, None, suc, zero, refl, sym, subst, length-append, append_assoc, ap, ◌∙◌, arith, inl, inr}
+use Rattle.std.proofs.Common.{◌≡◌, ◌≤◌, ◌<◌, ◌+◌, ◌-◌, ◌^◌, ℕ, Bool, true, false, cond, ◌&&◌, ◌||◌, nat_eq, nat_lt, List, [], ◌∷◌, ◌++◌, length, map, take, drop, set, slice_get, length-set, length-drop, Option, Some, None, suc, zero, refl, sym, subst, length-append, append_assoc, ap, ◌∙◌, arith, inl, inr}
 use Rattle.std.specs.Prelude.{◌⊎◌}
 use Rattle.std.specs.List.{prefix_len}
 use Rattle.std.proofs.lemmas.List.{append-nil}
@@ -92,7 +92,7 @@ order_dropped writer gone before groups n less h =
 
 -- ---- one more acknowledgement
 
-order_set : (writer : Writer) (seq after : ℕ) (groups : List Logged) (i : ℕ) (x y : Logged) → slice_get groups i ≡ Some x → y.group ≡ x.group → InOrder writer seq after groups → InOrder writer seq after (set groups i y)
+pub order_set : (writer : Writer) (seq after : ℕ) (groups : List Logged) (i : ℕ) (x y : Logged) → slice_get groups i ≡ Some x → y.group ≡ x.group → InOrder writer seq after groups → InOrder writer seq after (set groups i y)
 order_set writer seq after [] i x y found same h = tt
 order_set writer seq after (z ∷ groups) zero x y found same h =
     let one : z ≡ x = cc found in

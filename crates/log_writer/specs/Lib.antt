@@ -1,3 +1,4 @@
 pub mod Acks
 pub mod Inside
 pub mod Log
+pub mod TakenBack

@@ -1,6 +1,7 @@
 //! The log stores that acknowledged a group.
 ghost use Rattle.std.specs.Prelude.{◌≡◌, Option};
 ghost use Rattle.log_writer.specs.Acks.{has, has_all, no_acks, with_ack, least_lacking};
+ghost use Rattle.log_writer.specs.TakenBack.{without_ack};
 
 /// Which of the three log stores acknowledged a group.
 #[derive(Clone, Copy, Debug, PartialEq, Eq)]
@@ -42,6 +43,17 @@ impl Acks {
             first: self.first || store == 1,
             second: self.second || store == 2,
             third: self.third || store == 3,
+        }
+    }
+
+    /// These without this store.
+    pub fn without(self, store: u8) -> Acks
+        ensures { result ≡ without_ack self store }
+    {
+        Acks {
+            first: self.first && store != 1,
+            second: self.second && store != 2,
+            third: self.third && store != 3,
         }
     }
 

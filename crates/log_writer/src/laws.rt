@@ -2,11 +2,12 @@
 //!
 //! A law is the contract of a function that does nothing: a caller that calls it has the law among its
 //! facts.
-ghost use Rattle.std.specs.Prelude.{◌≡◌, ◌≤◌, ◌⊎◌, ℕ, Some, true};
+ghost use Rattle.std.specs.Prelude.{◌≡◌, ◌≤◌, ◌⊎◌, ℕ, Some, true, false};
 ghost use Rattle.tm_data.specs.declared.log.Group.{Group};
 ghost use Rattle.log_writer.specs.Acks.{all_acks, has};
 ghost use Rattle.log_writer.specs.declared.logged.Logged.{Logged};
 ghost use Rattle.log_writer.specs.Log.{acked, appended, durable_seq, durable_stamp, is_marked, IsLog, lacking, last_seq, last_stamp, let_go, Log, numbered, resent, settled};
+ghost use Rattle.log_writer.specs.TakenBack.{taken_back};
 
 /// The number of the last durable group never falls. Refused is an acknowledgement that takes another back.
 pub fn durable_never_falls()
@@ -43,4 +44,12 @@ pub fn letting_go_changes_no_answer()
     ensures lacking { (log : Log) (seq : ℕ) → lacking (let_go log) seq ≡ lacking log seq }
     ensures resent { (log : Log) (store : ℕ) → has all_acks store ≡ true → resent (let_go log).groups store ≡ resent log.groups store }
     ensures order { (log : Log) → IsLog log → IsLog (let_go log) }
+{}
+
+/// An acknowledgement that wasn't noted before is taken back whole: the log is as it was. One that was noted before
+/// changes nothing when it comes again. Refused are an acknowledgement that is taken back from all three stores, and one
+/// that is taken back from the last group in its place.
+pub fn an_acknowledgement_is_taken_back_whole()
+    ensures back { (log : Log) (store seq : ℕ) → is_marked log seq store ≡ false → taken_back (acked log store seq) store seq ≡ log }
+    ensures again { (log : Log) (store seq : ℕ) → is_marked log seq store ≡ true → acked log store seq ≡ log }
 {}

@@ -2,8 +2,9 @@
 ghost use Rattle.std.specs.Prelude.{◌≡◌, ◌+◌, ◌<◌, ◌≤◌, ◌^◌, IfOk, OnOk, OnErr, length};
 ghost use Rattle.std.specs.Option.{option_copied};
 ghost use Rattle.log_writer.specs.Log.{acked, appended, appended_all, AreNext, durable_count, durable_seq, durable_stamp, group_of, IsLog, lacking, last_seq, last_stamp, let_go, new_log, numbered, reached, resent, settled};
+ghost use Rattle.log_writer.specs.TakenBack.{taken_back};
 
-use crate::rows::{at, drop_front, first_lacking, mark, stamp_at, unacknowledged, walk_on};
+use crate::rows::{at, drop_front, first_lacking, mark, stamp_at, unacknowledged, unmark, walk_on};
 use crate::{Acks, Logged};
 use std::alloc::Global;
 use std::collections::VecDeque;
@@ -134,6 +135,23 @@ impl LogWriter {
         self.first = walk_on(&self.groups, 1, self.first);
         self.second = walk_on(&self.groups, 2, self.second);
         self.third = walk_on(&self.groups, 3, self.third);
+    }
+
+    /// Takes back what [`on_ack`](LogWriter::on_ack) noted: that a log store acknowledged the group of that number. Of
+    /// a group that was let go nothing is taken back. It takes no memory. So a step that an acknowledgement begins can
+    /// be given up where it wants memory.
+    pub fn take_back(&mut self, store: u8, seq: u32)
+        ensures { self.new ≡ taken_back self.old store seq }
+    {
+        let place = (seq as usize).saturating_sub(self.gone);
+        if place == 0 {
+            return;
+        }
+        unmark(&mut self.groups, store, place);
+        let before = place - 1;
+        self.first = walk_on(&self.groups, 1, self.first.min(before));
+        self.second = walk_on(&self.groups, 2, self.second.min(before));
+        self.third = walk_on(&self.groups, 3, self.third.min(before));
     }
 
     /// Lets the durable groups go, which gives back their memory. Whatever is asked of the log is answered as

@@ -2,6 +2,7 @@
 ghost use Rattle.std.specs.Prelude.{◌≡◌, ◌≤◌, IfOk, length, drop, map, slice_get};
 ghost use Rattle.std.specs.Option.{option_copied};
 ghost use Rattle.log_writer.specs.Log.{acked_at, reached, resent, stamp_at, unacknowledged};
+ghost use Rattle.log_writer.specs.TakenBack.{taken_at};
 
 use crate::{Acks, Logged, RESENT};
 use std::alloc::Global;
@@ -52,6 +53,18 @@ pub(crate) fn mark(groups: &mut VecDeque<Logged>, store: u8, place: usize)
     }
     if let Some(logged) = groups.get_mut(place - 1) {
         logged.acks = logged.acks.with(store);
+    }
+}
+
+/// Takes back an acknowledgement of the group of that place, counted from 1.
+pub(crate) fn unmark(groups: &mut VecDeque<Logged>, store: u8, place: usize)
+    ensures { groups.new.items ≡ taken_at groups.old.items store place }
+{
+    if place == 0 {
+        return;
+    }
+    if let Some(logged) = groups.get_mut(place - 1) {
+        logged.acks = logged.acks.without(store);
     }
 }
 

@@ -1,6 +1,6 @@
 -- Entries under numbers, and the finite map that they stand for.
 use Rattle.std.proofs.Common.{◌≡◌, ℕ, Bool, List, [], ◌∷◌, Option, Some, None, refl, ap, sym, ◌∙◌, cond}
-use Rattle.std.specs.Prelude.{nat_eq, IsSome, IsOk, OnOk, OnErr}
+use Rattle.std.specs.Prelude.{nat_eq, IsSome, IsOk, OnOk}
 use Rattle.std.specs.declared.result.Result.{Result}
 use Rattle.std.specs.declared.result.Result.TheVariants.{Ok, Err}
 use Rattle.std.specs.Ordering.{nat_cmp, eq_by_cmp}
@@ -36,8 +36,7 @@ pub where_ok : {A E P : Type 0} → (r : Result A E) → IsOk r → OnOk r P →
 where_ok (Ok x) is p = p
 where_ok (Err e) is p = absurd (cc is)
 
--- What holds where a call succeeds that fails only where nothing is there.
-pub where_there : {A E X P : Type 0} → (r : Result A E) (o : Option X) → OnErr r (o ≡ None) → IsSome o → OnOk r P → P
-where_there (Ok x) o absent there p = p
-where_there (Err e) None absent there p = absurd (cc there)
-where_there (Err e) (Some x) absent there p = absurd (cc absent)
+-- What is there isn't absent.
+pub never_there : {X P : Type 0} → (o : Option X) → o ≡ None → IsSome o → P
+never_there None absent there = absurd (cc there)
+never_there (Some x) absent there = absurd (cc absent)

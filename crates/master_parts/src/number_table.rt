@@ -64,12 +64,16 @@ impl<V: Drop> NumberTable<V> {
         let _ = self.values.insert(number, value);
     }
 
-    /// Sets the value of a number that has one. It takes no memory.
-    pub fn replace(&mut self, number: u32, value: V)
+    /// Sets the value of a number that has one, and gives the one that it had. It takes no memory.
+    pub fn replace(&mut self, number: u32, value: V) -> Option<V>
         requires { IsSome (fin.get self.old.map number) }
-        ensures { self.new.map ≡ fin.insert self.old.map number value }
+        ensures was { result ≡ fin.get self.old.map number }
+        ensures set { self.new.map ≡ fin.insert self.old.map number value }
     {
-        let _ = self.values.insert(number, value);
+        match self.values.insert(number, value) {
+            Ok(old) => old,
+            Err(_) => None,
+        }
     }
 
     /// Takes a number away. It takes no memory.

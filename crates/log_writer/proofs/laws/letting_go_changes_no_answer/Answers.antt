@@ -1,4 +1,3 @@
-use Rattle.std.proofs.Common.{refl}
 use Rattle.log_writer.proofs.LetGoLemmas.{same_durable, same_lacking, same_last, same_last_stamp, same_marks, same_resent, same_settled, same_stamp, still_log}
 use Rattle.log_writer.proofs.laws.letting_go_changes_no_answer.Goals as goal
 

@@ -1,4 +1,4 @@
-use Rattle.std.proofs.Common.{ap, sym, ◌≡◌, ◌∙◌, arith}
+use Rattle.std.proofs.Common.{ap, sym, ◌∙◌, arith}
 use Rattle.log_writer.specs.Log.{Log, durable_count}
 use Rattle.log_writer.proofs.PrefixLemmas.{durable_short, durable_within}
 use Rattle.log_writer.proofs.OrderLemmas.{kept_gone}

@@ -1,0 +1,19 @@
+use Rattle.std.proofs.Common.{refl, ap}
+use Rattle.master_model.specs.declared.session.Own.{Own}
+use Rattle.master_work.proofs.SessionLemmas.{put_back_changed, put_back_indexed, put_there}
+use Rattle.master_work.proofs.sessions.Sessions.set_progress.Goals as goal
+
+pub replace-requires-2 : goal.replace-requires-2
+replace-requires-2 c = put_there c.self.inside.owns.map c.replace.new.self.map c.from-session.result c.nothing.result c.replace.ensures.set
+
+pub invariant_of-self-2 : goal.invariant_of-self-2
+invariant_of-self-2 c =
+    let s = c.self.inside in
+    put_back_indexed s.begun c.from-session.result c.in-Some.own (record c.in-Some.own { progress = c.args.progress }) c.nothing.result s.owns.map c.replace.new.self.map c.replace-2.new.self.map s.places.map c.self.invariant c.in-Some.ensures.was refl
+    c.replace.ensures.set c.replace-2.ensures.set
+
+pub returns : goal.returns
+returns c own at =
+    let s = c.self.inside in
+    put_back_changed c.args.self.now s.begun s.owns.map c.replace.new.self.map c.replace-2.new.self.map c.from-session.result c.args.session c.nothing.result c.in-Some.own own (record c.in-Some.own { progress = c.args.progress })
+    (record own { progress = c.args.progress }) c.self.view_is c.from-session.ensures c.in-Some.ensures.was at c.replace.ensures.set c.replace-2.ensures.set (ap (λ (o : Own). record o { progress = c.args.progress }))

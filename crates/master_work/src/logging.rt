@@ -1,0 +1,71 @@
+//! Groups that change no page, and what a command waits for.
+ghost use Rattle.std.specs.Prelude.{◌≡◌, ◌+◌, ◌<◌, ◌≤◌, ◌-◌, ◌^◌, ◌∷◌, [], None, true, IfOk, OnOk, OnErr};
+ghost use Rattle.std.specs.List.{AllByRecursion};
+ghost use Rattle.page_model.specs.Effects.{page_of};
+ghost use Rattle.master_model.specs.Ends.{awaited};
+ghost use Rattle.master_model.specs.Logging.{has_numbers, has_stamps, next_group, with_group};
+
+use crate::WorkState;
+use tm_base::{Group, Mem, Record, RecordList};
+
+/// The greatest stamp.
+const LAST_STAMP: u64 = 0x7fff_ffff_ffff_ffff;
+
+impl WorkState {
+    /// Whether so many further groups have numbers below `2^32 - 1`.
+    pub fn has_numbers(&self, count: u32) -> bool
+        ensures { result ≡ has_numbers self.now count }
+    {
+        u64::from(self.timed.last_seq()) + u64::from(count) < u64::from(u32::MAX)
+    }
+
+    /// Whether so many further groups have stamps up to `2^63 - 1`.
+    pub fn has_stamps(&self, count: u32) -> bool
+        ensures { result ≡ has_stamps self.now count }
+    {
+        self.timed.scalar().0 + u64::from(count) <= LAST_STAMP
+    }
+
+    /// The next group of one record. There is a number for it. It isn't logged yet.
+    pub fn next_group(&self, change: Record) -> Mem<Group>
+        requires { has_numbers self.now 1 ≡ true }
+        ensures { IfOk result (λ group. group ≡ next_group self.now (change ∷ [])) }
+    {
+        let mut records = RecordList::new(self.alloc);
+        records.push(change)?;
+        let group = self.timed.next(records)?;
+        Ok(group)
+    }
+
+    /// Logs the next group, whose records change no page: it has the end of a transaction, or says nothing. There is a
+    /// stamp for it. With want of memory nothing changes.
+    pub fn log_plain(&mut self, group: Group) -> Mem<()>
+        requires stamp { has_stamps self.old 1 ≡ true }
+        requires plain { AllByRecursion (λ change. page_of change ≡ None) group.records }
+        requires next { group ≡ next_group self.old group.records }
+        ensures ok { OnOk result (self.new ≡ with_group self.old group) }
+        ensures err { OnErr result (self.new ≡ self.old) }
+    {
+        self.timed.log(group)?;
+        Ok(())
+    }
+
+    /// The log store and the group that a command waits for until the group of that number is durable: that group, or,
+    /// where every store has it, the first one that isn't durable. None once the group is durable.
+    pub fn waits_for(&self, seq: u32) -> Option<(u8, u32)>
+        ensures { result ≡ awaited self.now seq }
+    {
+        let durable = self.timed.durable_seq();
+        if seq <= durable {
+            return None;
+        }
+        if let Some(store) = self.timed.lacking(seq) {
+            return Some((store, seq));
+        }
+        let next = durable + 1;
+        let Some(store) = self.timed.lacking(next) else {
+            return None;
+        };
+        Some((store, next))
+    }
+}
