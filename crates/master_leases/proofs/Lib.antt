@@ -1,0 +1,4 @@
+pub mod LeaseLemmas
+pub mod ImageLemmas
+pub mod RecallLemmas
+pub mod TagLemmas
