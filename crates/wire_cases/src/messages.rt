@@ -142,6 +142,11 @@ fn fault(alloc: Global, bytes: &[u8]) -> Option<ReadError> {
     decode(alloc, bytes).err()
 }
 
+fn is_written(alloc: Global, message: &Message, bytes: &[u8]) -> Result<bool, Fail> {
+    let written = encode(alloc, message)?;
+    Ok(written.as_slice() == bytes)
+}
+
 #[test]
 fn each_kind_comes_back(rt: HostRuntime) -> Result<(), Fail> {
     for kind in 1..32 {
@@ -182,8 +187,7 @@ fn register_is_written(rt: HostRuntime) -> Result<(), Fail> {
         stamp: Stamp(0),
         note: Note::Register { boot: 1 },
     };
-    let bytes = encode(rt.alloc(), &message)?;
-    assert_eq!(rt; bytes.as_slice(), REGISTER.as_slice());
+    assert!(rt; is_written(rt.alloc(), &message, &REGISTER)?);
     Ok(())
 }
 
@@ -203,8 +207,7 @@ fn registered_is_written(rt: HostRuntime) -> Result<(), Fail> {
             writer: Writer(1),
         },
     };
-    let bytes = encode(rt.alloc(), &message)?;
-    assert_eq!(rt; bytes.as_slice(), REGISTERED.as_slice());
+    assert!(rt; is_written(rt.alloc(), &message, &REGISTERED)?);
     Ok(())
 }
 
@@ -225,8 +228,7 @@ fn recall_is_written(rt: HostRuntime) -> Result<(), Fail> {
             epoch: 2,
         },
     };
-    let bytes = encode(rt.alloc(), &message)?;
-    assert_eq!(rt; bytes.as_slice(), RECALL.as_slice());
+    assert!(rt; is_written(rt.alloc(), &message, &RECALL)?);
     Ok(())
 }
 
