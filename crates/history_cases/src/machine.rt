@@ -137,8 +137,12 @@ const NEXT: Txn = Txn {
     number: 2,
 };
 
+// Writer 1 is told that a writer is recovered.
+fn recovers(writer: Writer) -> MachineStep {
+    answered(1, Command::Recover { writer }, Reply::Recovered { writer })
+}
+
 fn undo_row(alloc: Global, number: u32) -> Row {
-    let recovered = Reply::Recovered { writer: Writer(2) };
     match number {
         0 => (Ok(begun(FIRST)), true),
         1 => (put(alloc, 1, b"b", b"1"), true),
@@ -159,10 +163,7 @@ fn undo_row(alloc: Global, number: u32) -> Row {
             true,
         ),
         15 => (Ok(settle(NEXT, true)), true),
-        16 => (
-            Ok(answered(1, Command::Recover { writer: Writer(2) }, recovered)),
-            false,
-        ),
+        16 => (Ok(recovers(SECOND.writer)), false),
         _ => (Ok(answered(1, Command::Commit, Reply::FullGroups)), true),
     }
 }

@@ -36,8 +36,7 @@ fn table(alloc: Global) -> Result<Tags, Fail> {
     Ok(tags)
 }
 
-// The first transaction ends, and two pages leave.
-fn leaves<L: Ledger>(tags: &mut Tags, blank: Blank) -> Mem<TagList>
+fn leaves_in<L: Ledger>(tags: &mut Tags, blank: Blank) -> Mem<TagList>
     requires { (blank.name ≡ L.name) × (blank.parts ≡ L.parts) × (1 ≤ blank.parts) }
 {
     let mut steps = Steps::<L>::new(blank);
@@ -46,10 +45,15 @@ fn leaves<L: Ledger>(tags: &mut Tags, blank: Blank) -> Mem<TagList>
     tags.take_page(Page(1), &mut steps)
 }
 
+// The first transaction ends, and two pages leave.
+fn leaves(tags: &mut Tags) -> Mem<TagList> {
+    leaves_in::<Brand>(tags, Blank::new(1))
+}
+
 #[test]
 fn a_transaction_ends(rt: HostRuntime) -> Result<(), Fail> {
     let mut tags = table(rt.alloc())?;
-    let first = leaves::<Brand>(&mut tags, Blank::new(1))?;
+    let first = leaves(&mut tags)?;
     assert_eq!(rt; first.len(), 2);
     tags.put_page(Page(4), &first)?;
     let copy = tags.copy_page(Page(4))?;
