@@ -9,7 +9,10 @@ use tm_base::{ByteList, Mem, Node, Page, RowKey, Stamp, Txn, Writer};
 fn a_writer_begins_with_nothing(rt: HostRuntime) -> Result<(), Fail> {
     let work = WorkState::new(rt.alloc(), 1, 2, Writer(3), Stamp(40))?;
     assert_eq!(rt; (work.writer(), work.settled()), (Writer(3), Stamp(40)));
-    assert_eq!(rt; work.stores.store_of(Page(5)), Node::PageStore { number: 2 });
+    assert_eq!(rt;
+        work.stores.store_of(Page(5)),
+        Node::PageStore { number: 2 }
+    );
     let own = Txn {
         writer: Writer(3),
         number: 1,

@@ -18,8 +18,8 @@ returns-clause-ok c own at =
     let s = c.self.inside in
     then_ok c.insert-added.result
     (λ added. put_back_changed c.args.self.now s.begun s.owns.map c.replace.new.self.map c.replace-2.new.self.map c.from-session.result c.args.session c.nothing.result c.in-Some.own own (record c.in-Some.own { written = c.insert-added.new.self })
-        (record own { written = sets.insert own.written c.args.row }) c.self.view_is c.from-session.ensures c.in-Some.ensures.was at c.replace.ensures.set c.replace-2.ensures.set
-        (λ one. λ i. record (one i) { written = (added ∙ ap (λ (o : Own). sets.insert o.written c.args.row) one) i }))
+    (record own { written = sets.insert own.written c.args.row }) c.self.view_is c.from-session.ensures c.in-Some.ensures.was at c.replace.ensures.set c.replace-2.ensures.set
+    (λ one. λ i. record (one i) { written = (added ∙ ap (λ (o : Own). sets.insert o.written c.args.row) one) i }))
     c.insert-added.ensures.ok
 
 pub returns-clause-err : goal.returns-clause-err
@@ -27,5 +27,5 @@ returns-clause-err c =
     let s = c.self.inside in
     then_err c.insert-added.result
     (λ kept. put_back_same c.args.self.now s.begun s.owns.map c.replace.new.self.map c.replace-2.new.self.map c.from-session.result c.nothing.result c.in-Some.own (record c.in-Some.own { written = c.insert-added.new.self }) c.self.view_is
-        c.in-Some.ensures.was c.replace.ensures.set c.replace-2.ensures.set (ap (λ w. record c.in-Some.own { written = w }) kept))
+    c.in-Some.ensures.was c.replace.ensures.set c.replace-2.ensures.set (ap (λ w. record c.in-Some.own { written = w }) kept))
     c.insert-added.ensures.err
