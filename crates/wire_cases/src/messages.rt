@@ -142,11 +142,6 @@ fn fault(alloc: Global, bytes: &[u8]) -> Option<ReadError> {
     decode(alloc, bytes).err()
 }
 
-fn is_written(alloc: Global, message: &Message, bytes: &[u8]) -> Result<bool, Fail> {
-    let written = encode(alloc, message)?;
-    Ok(written.as_slice() == bytes)
-}
-
 #[test]
 fn each_kind_comes_back(rt: HostRuntime) -> Result<(), Fail> {
     for kind in 1..32 {
@@ -187,7 +182,8 @@ fn register_is_written(rt: HostRuntime) -> Result<(), Fail> {
         stamp: Stamp(0),
         note: Note::Register { boot: 1 },
     };
-    assert!(rt; is_written(rt.alloc(), &message, &REGISTER)?);
+    let bytes = encode(rt.alloc(), &message)?;
+    assert_eq!(rt; bytes.as_slice(), REGISTER.as_slice());
     Ok(())
 }
 
@@ -207,7 +203,8 @@ fn registered_is_written(rt: HostRuntime) -> Result<(), Fail> {
             writer: Writer(1),
         },
     };
-    assert!(rt; is_written(rt.alloc(), &message, &REGISTERED)?);
+    let bytes = encode(rt.alloc(), &message)?;
+    assert_eq!(rt; bytes.as_slice(), REGISTERED.as_slice());
     Ok(())
 }
 
@@ -228,7 +225,8 @@ fn recall_is_written(rt: HostRuntime) -> Result<(), Fail> {
             epoch: 2,
         },
     };
-    assert!(rt; is_written(rt.alloc(), &message, &RECALL)?);
+    let bytes = encode(rt.alloc(), &message)?;
+    assert_eq!(rt; bytes.as_slice(), RECALL.as_slice());
     Ok(())
 }
 
