@@ -4,7 +4,5 @@
 
 pub mod laws;
 mod pool;
-#[cfg(test)]
-mod tests;
 
 pub use pool::{Pool, PoolError};

@@ -9,8 +9,6 @@ mod lists;
 mod numbers;
 mod own_events;
 mod reached;
-#[cfg(test)]
-mod tests;
 mod vector;
 
 pub use lists::{map_at, rows_at};

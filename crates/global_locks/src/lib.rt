@@ -12,8 +12,6 @@ mod leases;
 mod locks;
 mod pages;
 mod table;
-#[cfg(test)]
-mod tests;
 mod writers;
 
 pub use locks::Locks;

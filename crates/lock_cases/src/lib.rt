@@ -7,4 +7,6 @@
 #[cfg(test)]
 mod leases;
 #[cfg(test)]
+mod locks;
+#[cfg(test)]
 mod tags;

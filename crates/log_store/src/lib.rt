@@ -9,6 +9,3 @@ mod serving;
 mod writer_log;
 
 pub use log_store::LogStore;
-
-#[cfg(test)]
-mod tests;

@@ -14,6 +14,3 @@ mod rows;
 pub use acks::Acks;
 pub use log_writer::{LogWriter, RESENT};
 pub use logged::Logged;
-
-#[cfg(test)]
-mod tests;

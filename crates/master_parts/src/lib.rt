@@ -6,8 +6,6 @@
 
 mod number_table;
 mod stock;
-#[cfg(test)]
-mod tests;
 mod txn_set;
 
 pub use number_table::NumberTable;

@@ -11,8 +11,6 @@ mod readers;
 mod sessions;
 mod store_count;
 mod tags;
-#[cfg(test)]
-mod tests;
 mod work_state;
 
 pub use answer::Answer;

@@ -11,8 +11,6 @@ mod first;
 mod place;
 mod redo;
 mod suits;
-#[cfg(test)]
-mod tests;
 
 pub use error::RedoError;
 pub use first::initial;

@@ -8,8 +8,6 @@ mod intake;
 mod page_store;
 mod share;
 mod state;
-#[cfg(test)]
-mod tests;
 
 pub use page_store::PageStore;
 pub use store_model::ReadRefusal;

@@ -9,7 +9,5 @@ mod cover;
 mod lane;
 mod lanes;
 mod order;
-#[cfg(test)]
-mod tests;
 
 pub use order::Order;

@@ -16,8 +16,6 @@ mod pages;
 mod path;
 mod place;
 mod plan;
-#[cfg(test)]
-mod tests;
 
 pub use fence::level_of;
 pub use pages::Pages;

@@ -20,6 +20,3 @@ mod world;
 pub use laws::texts_differ;
 pub use line::{LineError, MAX_LINE, read_line};
 pub use sent::read_command;
-
-#[cfg(test)]
-mod tests;

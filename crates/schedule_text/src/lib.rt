@@ -11,6 +11,3 @@ mod reply;
 pub use message::print_message;
 pub use outcome::print_outcome;
 pub use schedule_lines::{LineError, MAX_LINE, read_command, read_line, texts_differ};
-
-#[cfg(test)]
-mod tests;

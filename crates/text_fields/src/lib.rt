@@ -11,6 +11,3 @@ mod words;
 pub use decimal_field::{push_decimal, read_u8, read_u16, read_u32, read_u64};
 pub use hex_field::{print_hex, read_hex};
 pub use words::split_word;
-
-#[cfg(test)]
-mod tests;

@@ -16,6 +16,3 @@ pub use disk::Disk;
 pub use file_disk::FileDisk;
 pub use fuse::Fuse;
 pub use memory_disk::MemoryDisk;
-
-#[cfg(test)]
-mod tests;

@@ -21,6 +21,3 @@ pub use source::{Failed, MemorySource, Source, SureSource};
 pub use status::{Status, Word};
 pub use system::{StdSink, StdSource};
 pub use writes::write_all;
-
-#[cfg(test)]
-mod tests;

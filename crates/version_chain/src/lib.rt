@@ -10,8 +10,6 @@ mod chain_map;
 mod chains;
 mod error;
 mod place;
-#[cfg(test)]
-mod tests;
 mod version;
 
 pub use chains::Chains;
