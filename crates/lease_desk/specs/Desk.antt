@@ -1,5 +1,5 @@
 -- The leases of a master, and what each call makes of them.
-use Rattle.std.specs.Prelude.{◌≡◌, ◌≢◌, ◌<◌, ◌^◌, ℕ, Bool, true, false, ◌&&◌, nat_eq, nat_lt, nat_le}
+use Rattle.std.specs.Prelude.{◌≡◌, ◌≢◌, ◌<◌, ◌≤◌, ◌^◌, ℕ, Bool, true, false, ◌&&◌, nat_eq, nat_lt, nat_le}
 use Rattle.std.specs.Ordering.{nat_cmp}
 use Rattle.std.specs.FinMap.{FinMap, get, insert}
 use Rattle.std.specs.FinMap as map
@@ -19,6 +19,10 @@ Leases = FinMap nat_cmp PageLease
 
 abbrev pub coded_leases : Coded Leases
 coded_leases = map.code coded_ℕ kept.the_row.coded
+
+-- Each page of which anything is kept has a number of 32 bits.
+abbrev pub PagesFit : Leases → Type 0
+PagesFit m = (page : ℕ) → 2 ^ 32 ≤ page → get m page ≡ None
 
 -- A page that was never granted here.
 abbrev pub unseen : PageLease

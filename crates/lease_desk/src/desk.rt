@@ -6,7 +6,7 @@ ghost use Rattle.std.specs.FinMap as map;
 ghost use Rattle.lease_desk.specs.declared.lease.Lease.TheVariants as lease;
 ghost use Rattle.std.specs.Prelude.{◌+◌, length};
 ghost use Rattle.lease_desk.specs.Inside.{has_rank, is_in, IsNextRanked, key, Slots};
-ghost use Rattle.lease_desk.specs.Desk.{lease_of, granted, recalled, changed, releasing, released, restored, is_ready, IsNext};
+ghost use Rattle.lease_desk.specs.Desk.{lease_of, granted, recalled, changed, releasing, released, restored, is_ready, IsNext, PagesFit};
 
 use crate::held_pages::HeldPages;
 use crate::key_set::KeySet;
@@ -242,10 +242,13 @@ impl Desk {
     }
 
     /// The least page with a number above `after` whose lease is in this state. It is found by halving; one
-    /// without a lease is found by counting past the leased pages behind `after`.
+    /// without a lease is found by counting past the leased pages behind `after`. No page with a greater number than
+    /// such as it can find is kept here, so none means that no further page is in a state of a lease.
     pub fn next_in(&self, state: Lease, after: u32) -> Option<Page>
-        ensures { IsNext self.now state after result }
+        ensures next { IsNext self.now state after result }
+        ensures fits { PagesFit self.now }
     {
+        self.leases.pages_fit();
         if matches!(state, Lease::Held) {
             return self.next_held(after);
         }

@@ -2,7 +2,7 @@
 ghost use Rattle.std.specs.Prelude.{◌≡◌, OnOk, OnErr, IsSome, None};
 ghost use Rattle.std.specs.Option.{option_copied};
 ghost use Rattle.std.specs.FinMap.{empty};
-ghost use Rattle.lease_desk.specs.Desk.{Leases};
+ghost use Rattle.lease_desk.specs.Desk.{Leases, PagesFit};
 ghost use Rattle.std.specs.FinMap as map;
 
 use crate::PageLease;
@@ -19,13 +19,15 @@ pub(crate) struct LeaseMap {
 
 impl Model for LeaseMap {
     ghost use Rattle.std.specs.FinMap.{from_entries};
-    ghost use Rattle.lease_desk.specs.Desk.{Leases, coded_leases};
+    ghost use Rattle.lease_desk.specs.Desk.{Leases, coded_leases, PagesFit};
 
     ghost Value = { Leases };
 
     ghost coded = { coded_leases };
 
     ghost view = { λ m. from_entries m.leases.entries };
+
+    ghost invariant = { λ m. PagesFit (from_entries m.leases.entries) };
 }
 
 impl LeaseMap {
@@ -43,6 +45,13 @@ impl LeaseMap {
         ensures { result ≡ map.get self.now page }
     {
         self.leases.get(&page).copied()
+    }
+
+    /// That each page of which anything is kept has a number of 32 bits.
+    pub(crate) fn pages_fit(&self)
+        ensures { PagesFit self.now }
+    {
+        let _leases = &self.leases;
     }
 
     /// Keeps this of a page. Only a new page may want memory.
