@@ -1,5 +1,5 @@
 -- The stamps of a log rise.
-use Rattle.std.proofs.Common.{◌≡◌, ◌≤◌, ◌<◌, ◌+◌, ◌-◌, ℕ, Bool, true, false, cond, nat_eq, List, [], ◌∷◌, length, slice_get, Option, Some, None, suc, zero, refl, ap, sym, ◌∙◌, arith}
+use Rattle.std.proofs.Common.{◌≡◌, ◌≤◌, ◌<◌, ◌+◌, ◌-◌, ℕ, Bool, true, false, cond, nat_eq, List, [], ◌∷◌, length, slice_get, slice_set, Option, Some, None, suc, zero, refl, ap, sym, ◌∙◌, arith}
 use Rattle.std.proofs.lemmas.Bool.Decides.{nat_tests}
 use Rattle.std.specs.List.{AllByRecursion}
 use Rattle.tm_data.specs.declared.log.Group.{Group}
@@ -11,7 +11,9 @@ use Rattle.master_model.specs.Logging.{with_change, with_changes, with_group}
 use Rattle.vs_clock.specs.State.{ticked, told}
 use Rattle.master_work.specs.Parts.{Timed}
 use Rattle.log_writer.specs.declared.logged.Logged.{Logged}
-use Rattle.log_writer.specs.Log.{Log, IsLog, InOrder, appended, durable_count, durable_stamp, last_stamp, stamp_at, stamp_of}
+use Rattle.log_writer.specs.Acks.{with_ack}
+use Rattle.log_writer.specs.TakenBack.{taken_at, taken_back, taken_there, without_ack}
+use Rattle.log_writer.specs.Log.{Log, IsLog, InOrder, acked, acked_at, acked_there, appended, durable_count, durable_stamp, last_stamp, stamp_at, stamp_of}
 
 -- the last stamp, by recursion
 abbrev last_of : ℕ → List Logged → ℕ
@@ -49,6 +51,37 @@ stamp_within writer seq before groups n h = by (nat_eq n 0)
 -- The stamp of the last durable group is at most that of the last one.
 pub durable_within : (log : Log) (stamp : ℕ) → IsLog log → last_stamp log ≤ stamp → durable_stamp log ≤ stamp
 durable_within log stamp h last = omega (arith, stamp_within log.writer (log.gone + 1) log.gone_stamp log.groups (durable_count log.groups) h, last_is log.gone_stamp log.groups, last)
+
+-- A group is kept with other acknowledgements: the stamps are the same.
+last_set : (after : ℕ) (ls : List Logged) (i : ℕ) (x y : Logged) → slice_get ls i ≡ Some x → y.group ≡ x.group → last_of after (slice_set ls i y) ≡ last_of after ls
+last_set after [] i x y found same = absurd (cc found)
+last_set after (z ∷ ls) zero x y found same = let one : z ≡ x = cc found in ap (λ (g : Group). last_of g.stamp.0 ls) (same ∙ ap (λ (l : Logged). l.group) (sym one))
+last_set after (z ∷ ls) (suc i) x y found same = last_set z.group.stamp.0 ls i x y found same
+
+same_last : (before : ℕ) (xs ys : List Logged) → last_of before xs ≡ last_of before ys → stamp_at before xs (length xs) ≡ stamp_at before ys (length ys)
+same_last before xs ys is = last_is before xs ∙ is ∙ sym (last_is before ys)
+
+pub acked_stamp : (log : Log) (store seq : ℕ) → last_stamp (acked log store seq) ≡ last_stamp log
+acked_stamp log store seq = same_last log.gone_stamp (acked_at log.groups store place) log.groups (by (nat_eq place 0) (slice_get log.groups (place - 1)) refl)
+  where
+    place : ℕ
+    place = seq - log.gone
+
+    by : (b : Bool) (o : Option Logged) → slice_get log.groups (place - 1) ≡ o → last_of log.gone_stamp (cond b log.groups (acked_there log.groups store (place - 1) o)) ≡ last_of log.gone_stamp log.groups
+    by true o is = refl
+    by false None is = refl
+    by false (Some l) is = last_set log.gone_stamp log.groups (place - 1) l (record l { acks = with_ack l.acks store }) is refl
+
+pub taken_stamp : (log : Log) (store seq : ℕ) → last_stamp (taken_back log store seq) ≡ last_stamp log
+taken_stamp log store seq = same_last log.gone_stamp (taken_at log.groups store place) log.groups (by (nat_eq place 0) (slice_get log.groups (place - 1)) refl)
+  where
+    place : ℕ
+    place = seq - log.gone
+
+    by : (b : Bool) (o : Option Logged) → slice_get log.groups (place - 1) ≡ o → last_of log.gone_stamp (cond b log.groups (taken_there log.groups store (place - 1) o)) ≡ last_of log.gone_stamp log.groups
+    by true o is = refl
+    by false None is = refl
+    by false (Some l) is = last_set log.gone_stamp log.groups (place - 1) l (record l { acks = without_ack l.acks store }) is refl
 
 -- Records that change no page change nothing.
 pub plain_changes : (w : Work) (rs : List Record) (stamp : ℕ) → AllByRecursion (λ (r : Record). page_of r ≡ None) rs → with_changes w rs stamp ≡ w

@@ -2,12 +2,15 @@
 ghost use Rattle.std.specs.Prelude.{◌≡◌, ◌≤◌, ◌<◌, ◌+◌, ◌-◌, ◌^◌, IfOk, OnOk, OnErr};
 ghost use Rattle.tm_data.specs.Vectors.{greatest};
 ghost use Rattle.vs_clock.specs.State.{started, heard_scalar, heard_vector, sending, ticked, told};
-ghost use Rattle.log_writer.specs.Log.{appended, durable_seq, durable_stamp, lacking, last_seq, last_stamp, new_log, settled};
+ghost use Rattle.std.specs.Option.{option_copied};
+ghost use Rattle.log_writer.specs.Log.{acked, appended, durable_seq, durable_stamp, group_of, lacking, last_seq, last_stamp, let_go, new_log, numbered, resent, settled};
+ghost use Rattle.log_writer.specs.TakenBack.{taken_back};
 
 use log_writer::LogWriter;
+use log_writer::laws::letting_go_changes_no_answer;
 use std::alloc::Global;
 use std::marker::Model;
-use tm_base::{Group, Mem, RecordList, Stamp, TryCopy, Vector, Writer};
+use tm_base::{Group, GroupList, Mem, RecordList, Stamp, TryCopy, Vector, Writer};
 use vs_clock::Clock;
 
 /// A writer's clock and its log. No group has a stamp above the clock's scalar. Contracts see the state of the clock
@@ -150,6 +153,49 @@ impl ClockedLog {
         ensures { result ≡ lacking self.now.log seq }
     {
         self.log.lacking(seq)
+    }
+
+    /// The group of that number, none where it was let go or isn't logged.
+    pub fn group(&self, seq: u32) -> Option<&Group>
+        ensures { option_copied result ≡ group_of (numbered self.now.log seq) }
+    {
+        self.log.group(seq)
+    }
+
+    /// The 16 lowest groups that a log store hasn't acknowledged, or all of these that are still here where there are
+    /// fewer, in the order of their numbers.
+    pub fn resend(&self, store: u8) -> Mem<GroupList>
+        ensures { IfOk result (λ groups. groups ≡ resent self.now.log.groups store) }
+    {
+        let groups = self.log.resend(store)?;
+        Ok(groups)
+    }
+
+    /// A log store acknowledged the group of that number. Of a store outside 1 to 3, or of a group that isn't here,
+    /// nothing is noted. It takes no memory.
+    #[tactic(auto, using(crate::proofs::LogLemmas::acked_stamp))]
+    pub fn on_ack(&mut self, store: u8, seq: u32)
+        ensures { self.new ≡ record self.old { log = acked self.old.log store seq } }
+    {
+        self.log.on_ack(store, seq);
+    }
+
+    /// Takes back what [`on_ack`](ClockedLog::on_ack) noted. Of a group that was let go nothing is taken back. It takes
+    /// no memory.
+    #[tactic(auto, using(crate::proofs::LogLemmas::taken_stamp))]
+    pub fn take_back(&mut self, store: u8, seq: u32)
+        ensures { self.new ≡ record self.old { log = taken_back self.old.log store seq } }
+    {
+        self.log.take_back(store, seq);
+    }
+
+    /// Lets the durable groups go. Whatever is asked of the log is answered as before, but for `group` of these. It
+    /// takes no memory.
+    pub fn let_go(&mut self)
+        ensures { self.new ≡ record self.old { log = let_go self.old.log } }
+    {
+        letting_go_changes_no_answer();
+        self.log.let_go();
     }
 
     /// The next group of these records: it has the next number and the next stamp, and tells what was learnt since the
