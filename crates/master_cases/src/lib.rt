@@ -5,6 +5,10 @@
 #![tactic(auto)]
 
 #[cfg(test)]
+mod ends;
+#[cfg(test)]
+mod leases;
+#[cfg(test)]
 mod parts;
 #[cfg(test)]
 mod works;
