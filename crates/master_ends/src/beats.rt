@@ -8,7 +8,6 @@ use master_work::WorkState;
 use tm_base::{Mem, MessageList, Record, Stamp};
 
 /// Logs a group that says nothing, and sends it. With want of memory nothing changes.
-#[tactic(auto, using(crate::proofs::SendLemmas::beat_sent))]
 fn beat(work: &mut WorkState) -> Mem<MessageList>
     requires number { has_numbers work.old 1 ≡ true }
     requires stamp { has_stamps work.old 1 ≡ true }

@@ -46,7 +46,8 @@ pub fn commit(work: &mut WorkState, session: u16) -> Mem<Answer>
         }
         Progress::Undoing { .. } => Ok(work.says(Reply::Ending { txn })),
         Progress::Ended {
-            committed: false, ..
+            committed: false,
+            ..
         } => Ok(work.says(Reply::Ending { txn })),
         Progress::Ended { seq, .. } => {
             let seq = *seq;

@@ -29,7 +29,6 @@ pub(crate) fn append_to_all(work: &WorkState, group: &Group, scalar: Stamp) -> M
 }
 
 /// A group to each of the three log stores, with the present scalar.
-#[tactic(auto, using(crate::proofs::SendLemmas::sent_now))]
 fn append_now(work: &WorkState, group: &Group) -> Mem<MessageList>
     ensures { IfOk result (λ messages. messages ≡ to_stores (append work.now group.now)) }
 {
