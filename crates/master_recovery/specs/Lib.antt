@@ -1,0 +1,5 @@
+pub mod Places
+pub mod Rows
+pub mod Gathered
+pub mod Seen
+pub mod ReadRows
