@@ -1,5 +1,5 @@
 -- Places, of which an empty one counts as nothing, and what they stand for.
-use Rattle.std.specs.Prelude.{◌≡◌, List, [], ◌∷◌, Bool, true, false, cond, not, ◌&&◌, ◌||◌, T, Some, None, Ok, Err, IsSome, is_some, OnOk, OnErr, filter}
+use Rattle.std.specs.Prelude.{◌≡◌, List, [], ◌∷◌, Bool, true, false, cond, ◌&&◌, T, Some, None, Ok, Err, IsSome, is_some, OnOk, OnErr}
 use Rattle.std.proofs.Common.{refl, sym, ◌∙◌, ap, subst, true≢false}
 use Rattle.std.specs.declared.cmp.Ordering.{Ordering}
 use Rattle.std.specs.declared.cmp.Ordering.TheVariants.{Less, Equal, Greater}
@@ -7,9 +7,8 @@ use Rattle.std.specs.declared.option.Option.{Option}
 use Rattle.std.specs.declared.result.Result.{Result}
 use Rattle.std.specs.Ordering.{eq_by_cmp, is_eq, is_lt}
 use Rattle.std.specs.Cmp.{IsTotalOrder, Equal-is, tied_itself}
-use Rattle.std.specs.FinMap.{FinMap, IsAntisymmetric, entries, entries_sorted, find, get, insert, retain_keys, empty, keys, contains_key, get-entries, get-from_entries, get-from_sorted, get-insert, get-retain_keys, entries-from_sorted, from_sorted, same_map, is_sorted, from_entries}
+use Rattle.std.specs.FinMap.{FinMap, IsAntisymmetric, entries, entries_sorted, find, get, insert, retain_keys, empty, get-entries, get-from_entries, get-from_sorted, get-insert, get-retain_keys, entries-from_sorted, from_sorted, same_map, is_sorted, from_entries}
 use Rattle.std.specs.FinMap.Entries.{below_all, is_sorted-where_key, find-where_key, where_key}
-use Rattle.std.specs.Map.{keys_of}
 use Rattle.tm_data.specs.Maps.{entries-empty}
 use Rattle.master_recovery.specs.Places.{HasAll, keep, kept, valued, with_items}
 

@@ -1,7 +1,6 @@
 -- What the code keeps of a recovery, and what is seen of it.
-use Rattle.std.specs.Prelude.{◌≡◌, ℕ, ◌+◌, ◌*◌, ◌<◌, ◌≤◌, ◌^◌, Bool, true, false, List, [], ◌∷◌, length, nat_le}
-use Rattle.std.proofs.Common.{refl, sym, ◌∙◌, ap, arith}
-use Rattle.std.proofs.lemmas.Bool.Decides.{nat_tests}
+use Rattle.std.specs.Prelude.{◌≡◌, ℕ, ◌+◌, Bool, true, false, List, [], length, nat_le}
+use Rattle.std.proofs.Common.{sym, ◌∙◌, ap}
 use Rattle.std.specs.declared.option.Option.{Option}
 use Rattle.std.specs.Ordering.{nat_cmp}
 use Rattle.std.specs.FinMap as fin
@@ -14,7 +13,7 @@ use Rattle.master_recovery.specs.declared.batch.Batch.{Batch}
 use Rattle.master_recovery.specs.Gathered.{gathered}
 use Rattle.master_recovery.specs.Places.{itself, nothing, page_key, stamp_value, valued, with_items}
 use Rattle.master_recovery.specs.Rows.{written_by}
-use Rattle.master_recovery.specs.Seen.{Seen, at, ended_by, listed, read, read_on, scanned, shown, to_take, with_read}
+use Rattle.master_recovery.specs.Seen.{Seen, ended_by, listed, read_on, scanned, shown, with_read}
 use Rattle.master_recovery.proofs.BatchLemmas.{groups_ends, groups_pages, groups_rows, reads_none, reads_some}
 use Rattle.master_recovery.proofs.PlaceLemmas.{valued-empty}
 

@@ -1,6 +1,6 @@
 -- Walks over the entries of an ordered map: the first one, those that a test keeps, and how many there are.
 use Rattle.std.specs.Prelude.{◌*◌, ◌^◌, if◌then◌else◌, nat_le, Ok, Err, IfOk, OnErr, ◌≡◌, ◌<◌, ◌≤◌, ◌↔◌, ℕ, ◌+◌, ◌-◌, List, [], ◌∷◌, ◌++◌, Bool, true, false, cond, ◌&&◌, Some, None, IsSome, IfSome, IfNone, is_some, filter, length, map, drop, take, slice_get}
-use Rattle.std.proofs.Common.{zero, suc, refl, sym, ◌∙◌, ap, arith, subst, append_assoc, length-append}
+use Rattle.std.proofs.Common.{zero, suc, refl, sym, ◌∙◌, ap, arith, append_assoc, length-append}
 use Rattle.std.proofs.lemmas.Bool.Decides.{nat_tests}
 use Rattle.std.proofs.lemmas.List.{append-nil}
 use Rattle.std.specs.declared.result.Result.{Result}

@@ -1,10 +1,9 @@
 -- What some groups change, gathered in lists before any of it is kept.
-use Rattle.std.specs.Prelude.{ℕ, ◌+◌, Bool, true, false, List, [], ◌∷◌, ◌++◌, nat_eq, length}
+use Rattle.std.specs.Prelude.{ℕ, Bool, true, false, List, [], ◌∷◌, ◌++◌, nat_eq}
 use Rattle.tm_data.specs.declared.log.Group.{Group}
 use Rattle.tm_data.specs.declared.log.Record.{Record}
 use Rattle.tm_data.specs.declared.log.Record.TheVariants.{RowSet, Cut, Format, NodeAdd, End, Beat}
 use Rattle.tm_data.specs.declared.row.Row.{Row}
-use Rattle.tm_data.specs.declared.transaction.Txn.{Txn}
 use Rattle.master_model.specs.Recovery.{WrittenRow, page_stamp}
 use Rattle.master_recovery.specs.declared.batch.Batch.{Batch}
 

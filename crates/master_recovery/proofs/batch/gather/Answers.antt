@@ -1,4 +1,4 @@
-use Rattle.std.proofs.Common.{rules, ◌≡◌, ◌∷◌, ◌∙◌, ap, sym, arith, drop, get_or, subst, ◌+◌, ◌≤◌, ◌^◌, length, true, false}
+use Rattle.std.proofs.Common.{◌≡◌, ◌∷◌, ◌∙◌, ap, sym, drop, subst, ◌+◌, ◌≤◌, ◌^◌, length, true, false}
 use Rattle.std.proofs.lemmas.List.{drop_more}
 use Rattle.master_model.specs.Recovery.{in_turn, is_next}
 use Rattle.master_recovery.specs.Gathered.{gathered}

@@ -1,4 +1,4 @@
-use Rattle.std.proofs.Common.{rules, ◌≡◌, ◌≤◌, ◌<◌, ◌-◌, ◌*◌, ◌∷◌, [], ◌++◌, ◌∙◌, Some, ap, sym, arith, length, length-append, map, take, drop}
+use Rattle.std.proofs.Common.{rules, ◌≡◌, ◌<◌, ◌-◌, ◌*◌, ◌∷◌, [], ◌++◌, ◌∙◌, Some, ap, sym, arith, length, length-append, map, take, drop}
 use Rattle.std.specs.Cmp.{nat_cmp_total}
 use Rattle.std.specs.FinMap as fin
 use Rattle.std.specs.FinMap.{nat_cmp-IsAntisymmetric}

@@ -1,4 +1,4 @@
-use Rattle.std.proofs.Common.{rules, ◌≡◌, ◌∙◌, ◌*◌, ◌+◌, ◌<◌, ◌^◌, ap, sym, subst, false}
+use Rattle.std.proofs.Common.{rules, ◌≡◌, ◌∙◌, ◌*◌, ◌+◌, ◌<◌, ◌^◌, sym, subst, false}
 use Rattle.std.specs.Prelude.{nat_le}
 use Rattle.master_recovery.specs.Seen.{StageFits, shown}
 use Rattle.master_recovery.proofs.WalkLemmas.{next_fits}

@@ -1,11 +1,11 @@
-use Rattle.std.proofs.Common.{rules, ◌≡◌, sym, ◌∙◌, ap, ℕ, Option}
+use Rattle.std.proofs.Common.{rules, sym, ◌∙◌, ap, Option}
 use Rattle.std.specs.Prelude.{Bool, ◌&&◌, filter, is_some, not}
 use Rattle.std.specs.FinMap as fin
 use Rattle.std.specs.Map.{keys_of}
 use Rattle.std.proofs.lemmas.Map.Made.{filter_same_pairs}
 use Rattle.tm_data.specs.Maps.{entries-as_map}
-use Rattle.master_model.specs.Recovery.{WrittenRow, written_cmp}
-use Rattle.master_recovery.specs.Places.{kept, valued}
+use Rattle.master_model.specs.Recovery.{WrittenRow}
+use Rattle.master_recovery.specs.Places.{valued}
 use Rattle.master_recovery.specs.Rows.{written_cmp-total, written_cmp-exact}
 use Rattle.master_recovery.proofs.PlaceLemmas.{entries-retain, entries-valued}
 use Rattle.master_recovery.proofs.WalkLemmas.{open_keys, where_open}
