@@ -10,13 +10,16 @@ use Rattle.master_model.specs.State.{Work, page_named}
 use Rattle.master_model.specs.Paths.{here, last_of}
 use Rattle.master_rows.specs.declared.paths.Way.{Way}
 
+-- A way that is here.
 pub record Leads : Type 0 where
   pub path : List Page
   pub leaf : Image
 
+-- The same of the code's.
 abbrev pub way_of : Way → Leads
 way_of way = record { path = way.path; leaf = way.leaf.now }
 
+-- A path that ends at a leaf; every path does.
 abbrev pub leads_by : List Page → Option Image → Result Leads Page
 leads_by path None = Err (page_named 0)
 leads_by path (Some leaf) = Ok (record { path = path; leaf = leaf })

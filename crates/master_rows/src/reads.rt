@@ -63,12 +63,7 @@ fn read(work: &mut WorkState, reading: &Reading, value: Option<Value>) -> Mem<An
 }
 
 /// The value of a row of another transaction is read once that has ended. With want of memory nothing changes.
-fn read_other(
-    work: &mut WorkState,
-    reading: Reading,
-    txn: Txn,
-    value: Option<Value>,
-) -> Mem<Answer>
+fn read_other(work: &mut WorkState, reading: Reading, txn: Txn, value: Option<Value>) -> Mem<Answer>
     ensures ok { IfOk result (λ a. answered work.new a ≡ unless (blocked (uses work.old reading.path) txn (reply.LockedRow txn reading.key)) (reads (uses work.old reading.path) reading.page.0 reading.key reading.own value)) }
     ensures err { OnErr result (work.new ≡ work.old) }
 {
@@ -103,7 +98,16 @@ fn get_for(work: &mut WorkState, own: Txn, table: u16, key: Key) -> Mem<Answer>
     let page = way.leaf.page;
     let Some(row) = row_at(way.leaf, &key) else {
         let path = way.path;
-        let answer = read(work, &Reading { own, key, path, page }, None)?;
+        let answer = read(
+            work,
+            &Reading {
+                own,
+                key,
+                path,
+                page,
+            },
+            None,
+        )?;
         return Ok(answer);
     };
     let txn = row.txn;
@@ -113,7 +117,17 @@ fn get_for(work: &mut WorkState, own: Txn, table: u16, key: Key) -> Mem<Answer>
         use_path(work, &path);
         return Ok(work.says(Reply::Value { value }));
     }
-    let answer = read_other(work, Reading { own, key, path, page }, txn, value)?;
+    let answer = read_other(
+        work,
+        Reading {
+            own,
+            key,
+            path,
+            page,
+        },
+        txn,
+        value,
+    )?;
     Ok(answer)
 }
 

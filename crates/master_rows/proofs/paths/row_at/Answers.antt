@@ -1,7 +1,6 @@
 use Rattle.std.proofs.Common.{◌∙◌, ap, subst, sym}
 use Rattle.std.specs.Option.{option_copied}
 use Rattle.tm_data.specs.declared.image.Body.{Body}
-use Rattle.tm_data.specs.declared.row.Row.{Row}
 use Rattle.tm_lists.specs.Kept.{Ascend}
 use Rattle.page_model.specs.Tiling.{rows_of}
 use Rattle.master_model.specs.Paths.{row_in}
