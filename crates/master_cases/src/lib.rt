@@ -11,4 +11,6 @@ mod leases;
 #[cfg(test)]
 mod parts;
 #[cfg(test)]
+mod rows;
+#[cfg(test)]
 mod works;
