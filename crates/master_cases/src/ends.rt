@@ -36,7 +36,7 @@ fn begin(work: &mut WorkState) -> Mem<Said> {
     Ok(Said::Sent(0))
 }
 
-fn said(answer: &Answer) -> Said {
+fn what_is_said(answer: &Answer) -> Said {
     match answer.reply {
         Reply::AgainStore { store, seq } => Said::Again(store, seq),
         Reply::Committed { .. } => Said::Committed,
@@ -52,7 +52,7 @@ fn commits(work: &mut WorkState) -> Mem<Said> {
     if sent.len() / 3 != answer.groups.len() {
         return Ok(Said::Other);
     }
-    Ok(said(&answer))
+    Ok(what_is_said(&answer))
 }
 
 fn wants(work: &mut WorkState, stamp: u32) -> Mem<Said> {

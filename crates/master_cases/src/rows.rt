@@ -27,7 +27,7 @@ enum Said {
     Other,
 }
 
-fn said(answer: &Answer) -> Said {
+fn what_is_said(answer: &Answer) -> Said {
     match &answer.reply {
         Reply::Begun { txn } => Said::Begun(txn.number),
         Reply::NoTransaction => Said::NoTransaction,
@@ -47,14 +47,14 @@ fn reads(work: &mut WorkState, table: u16, length: u8) -> Mem<Said> {
         return Ok(Said::Other);
     }
     let answer = get(work, SESSION, table, key)?;
-    Ok(said(&answer))
+    Ok(what_is_said(&answer))
 }
 
 fn happens(work: &mut WorkState, deed: Deed) -> Mem<Said> {
     match deed {
         Deed::Begin => {
             let answer = begin(work, SESSION)?;
-            Ok(said(&answer))
+            Ok(what_is_said(&answer))
         }
         Deed::Get(table, length) => reads(work, table, length),
     }
