@@ -124,14 +124,14 @@ all_of P w (g ∷ gs) h = by (nat_eq g.writer.0 w) (all_of P w gs h.1)
     by true rest = (h.0, rest)
     by false rest = rest
 
-last_two : (a b c d : Bool) → (a && b && (c && d)) ≡ true → (c ≡ true) × (d ≡ true)
+pub last_two : (a b c d : Bool) → (a && b && (c && d)) ≡ true → (c ≡ true) × (d ≡ true)
 last_two true true true true h = (refl, refl)
 last_two true true true false h = absurd (cc)
 last_two true true false d h = absurd (cc)
 last_two true false c d h = absurd (cc)
 last_two false b c d h = absurd (cc)
 
-positive : (n : ℕ) → nat_lt 0 n ≡ true → 1 ≤ n
+pub positive : (n : ℕ) → nat_lt 0 n ≡ true → 1 ≤ n
 positive n is = grind (arith, nat_tests)
 
 offered_known : (all : List Group) (p : Past) (g : Group) → Known all p → Among g all → Known all (done p (Offer g))
@@ -149,7 +149,7 @@ waiting_good all p h known w =
     (all_onto (IsGood all) (of w p.applied) (line_of p.order w).waiting
     (subst (AllByRecursion (IsGood all)) (sym (h.lines w).front) (all_of (IsGood all) w p.received known.received))).1
 
-head_of : (P : Group → Type 0) (gs rest : List Group) (g : Group) → gs ≡ g ∷ rest → AllByRecursion P gs → P g
+pub head_of : (P : Group → Type 0) (gs rest : List Group) (g : Group) → gs ≡ g ∷ rest → AllByRecursion P gs → P g
 head_of P gs rest g is all = let them : AllByRecursion P (g ∷ rest) = subst (AllByRecursion P) is all in them.0
 
 next_known : (all : List Group) (p : Past) → Holds p → Known all p → Known all (done p Next)
@@ -226,7 +226,7 @@ vector_is all (g ∷ gs) h = raised_ascends 0 (vector gs) (entry g.writer.0 g.st
 more_here : (s t w x : ℕ) → x ≡ cond (nat_eq w w) (max s t) s → t ≤ x
 more_here s t w x is = grind (arith, nat_tests, is)
 
-more_any : (b : Bool) (s t x : ℕ) → x ≡ cond b (max s t) s → s ≤ x
+pub more_any : (b : Bool) (s t x : ℕ) → x ≡ cond b (max s t) s → s ≤ x
 more_any true s t x is = omega (arith, is)
 more_any false s t x is = omega (arith, is)
 

@@ -5,3 +5,4 @@ pub mod RepeatLemmas
 pub mod CutLemmas
 pub mod OwnLemmas
 pub mod AliveLemmas
+pub mod GoesLemmas

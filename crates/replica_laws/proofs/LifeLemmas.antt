@@ -194,7 +194,7 @@ life_leads P s (i ∷ inputs) h =
 
 -- ---- the order of a life
 
-abbrev Any : Group → Type 0
+abbrev pub Any : Group → Type 0
 Any g = Unit {0}
 
 any_of : (gs : List Group) → AllByRecursion Any gs
@@ -205,7 +205,7 @@ brings_any : (n : Note) → Brings Any n
 brings_any (note.Groups writer gs) = any_of gs
 brings_any n = tt
 
-input_any : (i : Input) → BringsIn Any i
+pub input_any : (i : Input) → BringsIn Any i
 input_any (Hears m) = brings_any m.note
 input_any Ticks = tt
 input_any (Publishes bound) = tt

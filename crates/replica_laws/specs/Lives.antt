@@ -5,7 +5,7 @@ use Rattle.std.specs.declared.option.Option.{Option}
 use Rattle.std.specs.declared.option.Option.TheVariants.{None, Some}
 use Rattle.tm_data.specs.declared.log.Group.{Group}
 use Rattle.tm_data.specs.declared.vector.VectorEntry.{VectorEntry}
-use Rattle.tm_data.specs.Vectors.{stamp_of}
+use Rattle.tm_data.specs.Vectors.{Covers, stamp_of}
 use Rattle.tm_base.specs.declared.message.Message.{Message}
 use Rattle.page_model.specs.Lists.{Among}
 use Rattle.replica_model.specs.Order.{Order, line_of, offered, vector_of, waits}
@@ -42,6 +42,28 @@ PointsStay =
 -- The replica's order is at each moment that of a list of deeds, of which all holds that holds of every one.
 abbrev pub OrdersRun : Type 0
 OrdersRun = (number : ℕ) (inputs : List Input) → (p : Past) × ((lives (start number) inputs).order ≡ p.order) × Holds p
+
+-- The list with more in front of it: of groups the last one stands first.
+abbrev pub IsLater : List Group → List Group → Type 0
+IsLater old new = (more : List Group) × (new ≡ more ++ old)
+
+-- A moment of a replica and the next one, each with what was done with its order: what was received and what was applied is
+-- only added to at its end, the frontier never falls, and the points stay, with new ones behind them.
+pub record GoesOn (old new : State) (past later : Past) : Type 0 where
+  pub received : IsLater past.received later.received
+  pub applied : IsLater past.applied later.applied
+  pub frontier : Covers later.order.frontier past.order.frontier
+  pub points : (more : List (List VectorEntry)) × (new.points ≡ old.points ++ more)
+
+-- At each moment the order is that of a list of deeds, of which all holds that holds of every one; and it goes on from the
+-- moment before.
+abbrev pub Moments : State → Past → List Input → Type 0
+Moments s p [] = (s.order ≡ p.order) × Holds p
+Moments s p (i ∷ inputs) =
+    (s.order ≡ p.order) × Holds p × ((q : Past) × GoesOn s (after_input s i) p q × Moments (after_input s i) q inputs)
+
+abbrev pub OrdersGoOn : Type 0
+OrdersGoOn = (number : ℕ) (inputs : List Input) → Moments (start number) begun inputs
 
 -- A group that isn't its writer's next changes nothing.
 abbrev pub OthersChangeNothing : Type 0

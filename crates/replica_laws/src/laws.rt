@@ -1,6 +1,6 @@
 //! The laws of the order of groups, of points, and of what is applied as a cut of a history.
 ghost use Rattle.replica_laws.specs.ClosedCuts.{FrontiersAreCuts, PointsAreCuts};
-ghost use Rattle.replica_laws.specs.Lives.{OrdersRun, OthersChangeNothing, PointsStay, RepeatsChangeNothing, WaitsAreOfTheLeast};
+ghost use Rattle.replica_laws.specs.Lives.{OrdersGoOn, OrdersRun, OthersChangeNothing, PointsStay, RepeatsChangeNothing, WaitsAreOfTheLeast};
 ghost use Rattle.replica_laws.specs.Runs.{EveryRunHolds};
 
 use history_laws::laws::vector_cuts_are_closed;
@@ -30,6 +30,13 @@ pub fn waits_are_of_the_least()
 /// applications, of which all holds that holds of every one. Refused is a step that applies a group which isn't next.
 pub fn orders_run()
     ensures { OrdersRun }
+{}
+
+/// From each moment to the next what was received and what was applied is only added to at its end, the frontier never falls,
+/// and the points stay; and it is one list of deeds that so goes on from the beginning. Refused is a step that forgets on a
+/// roster what was applied.
+pub fn orders_go_on()
+    ensures { OrdersGoOn }
 {}
 
 /// A point keeps its vector, whatever comes later. Refused is a publication that replaces the last point.
