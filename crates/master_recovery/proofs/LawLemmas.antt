@@ -217,3 +217,6 @@ module _ {K X : Type 0} (R : K → K → Ordering) where
 
 pub undo_rows_ascend : (writer : ℕ) (gs : List Group) → IsStrictlySortedBy written_cmp (undo_rows writer gs)
 undo_rows_ascend writer gs = keys_ascend written_cmp _ (fin.entries_sorted (fin.retain_keys (written_by fin.empty writer gs) (λ r. not (have_end gs r.txn))))
+
+pub pages_ascend : (gs : List Group) → IsStrictlySortedBy nat_cmp (fin.keys (with_groups fin.empty gs))
+pages_ascend gs = keys_ascend nat_cmp _ (fin.entries_sorted (with_groups fin.empty gs))

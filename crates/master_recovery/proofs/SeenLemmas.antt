@@ -269,3 +269,6 @@ taken_shows l r told is same = by r.stage refl
     by (Undo a) e = stays l r is
     by Told e = stays l r is
     by Over e = stays l r is
+
+pub left_shows : (r : Recovery) (left : ℕ) → r.stage ≡ Undo left → to_undo r.writer r.scanned ≡ undo_rows r.writer r.scanned → (seen r).undo ≡ model.rows_left r left
+left_shows r left e same = ap (left_at r) e ∙ ap (λ rows. drop (length rows - left) rows) (sym same)

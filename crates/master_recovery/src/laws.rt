@@ -3,19 +3,21 @@
 //! A law is the contract of a function that does nothing: a caller that calls it has the law among its facts.
 ghost use Rattle.std.specs.Prelude.{◌≡◌, ◌<◌, ◌-◌, ℕ, List, true, false, not, ◌&&◌, nat_eq, Some};
 ghost use Rattle.std.specs.FinMap as fin;
+ghost use Rattle.std.specs.Ordering.{nat_cmp};
 ghost use Rattle.std.specs.List.Sorted.{IsStrictlySortedBy};
 ghost use Rattle.tm_data.specs.declared.log.Group.{Group};
 ghost use Rattle.master_model.specs.State.{Life, Recovery};
 ghost use Rattle.master_model.specs.declared.recovery.Stage.TheVariants.{Undo, Told};
-ghost use Rattle.master_model.specs.Recovery.{WrittenRow, have_end, on_closed_in, on_groups_in, on_recovered, on_sealed_in, on_taken_in, to_undo, with_groups, writer_named, written_cmp};
+ghost use Rattle.master_model.specs.Recovery.{WrittenRow, have_end, on_closed_in, on_groups_in, on_recovered, on_sealed_in, on_taken_in, pages_of, rows_left, to_undo, with_groups, writer_named, written_cmp};
 ghost use Rattle.master_recovery.specs.Rows.{undo_rows};
 ghost use Rattle.master_recovery.specs.ReadRows.{is_among, last_stamp, writes};
-ghost use Rattle.master_recovery.specs.Seen.{IsSound, Shows, closed, over, scanned, sealed, seen, taken, told, undone};
+ghost use Rattle.master_recovery.specs.Seen.{IsSound, Shows, closed, listed, over, scanned, sealed, seen, taken, told, undone};
 
 /// The pages that are taken over are exactly those that the groups change, each with the stamp of the last group that
-/// changes it. Refused is a walk that keeps a page's first stamp.
+/// changes it, and they are listed ascending. Refused is a walk that keeps a page's first stamp.
 pub fn pages_have_their_last_stamps()
-    ensures { (groups : List Group) (page : ℕ) → fin.get (with_groups fin.empty groups) page ≡ last_stamp groups page }
+    ensures ascending { (groups : List Group) → IsStrictlySortedBy nat_cmp (fin.keys (with_groups fin.empty groups)) }
+    ensures stamps { (groups : List Group) (page : ℕ) → fin.get (with_groups fin.empty groups) page ≡ last_stamp groups page }
 {}
 
 /// The rows to undo are exactly those that a group writes in the name of a transaction of the writer whose end is in none of
@@ -64,9 +66,16 @@ pub fn a_taken_part_shows()
         → Shows (taken (seen r) part) (on_taken_in l r part r.stage).0.recovery }
 {}
 
-/// So does a row that is undone, which leaves one row less.
+/// What is seen lists the pages as the definitions do, so each part of them is the definitions' part.
+pub fn the_pages_show()
+    ensures { (r : Recovery) → listed (seen r).pages ≡ pages_of r.scanned }
+{}
+
+/// So does a row that is undone, which leaves one row less: those that are left are the definitions', where these list the rows to
+/// undo in their order.
 pub fn an_undone_row_shows()
-    ensures { (r : Recovery) (left : ℕ) → r.stage ≡ Undo left → 0 < left → IsSound (seen r) → undone (seen r) left ≡ seen (record r { stage = Undo (left - 1) }) }
+    ensures rows { (r : Recovery) (left : ℕ) → r.stage ≡ Undo left → to_undo r.writer r.scanned ≡ undo_rows r.writer r.scanned → (seen r).undo ≡ rows_left r left }
+    ensures left { (r : Recovery) (left : ℕ) → r.stage ≡ Undo left → 0 < left → IsSound (seen r) → undone (seen r) left ≡ seen (record r { stage = Undo (left - 1) }) }
 {}
 
 /// So does the word to the lock manager that every row is undone.
