@@ -50,6 +50,11 @@ pub set_under : (page : ℕ) (es : List (ℕ × Image)) (new : Image) → AreOwn
 set_under page [] new own of = refl
 set_under page (e ∷ es) new own of = grind (arith, nat_tests, own.0, set_under page es new own.1 of)
 
+-- An image of a page that isn't there has no place.
+pub stays_out : (page : ℕ) (es : List (ℕ × Image)) (new : Image) → AreOwn es → new.page.0 ≡ page → lookup (nat_eq page) es ≡ None → replaced new (images_in es) ≡ images_in es
+stays_out page [] new own of none = refl
+stays_out page (e ∷ es) new own of none = grind (arith, nat_tests, own.0, stays_out page es new own.1 of)
+
 pub set_same : (page : ℕ) (es : List (ℕ × Image)) (old : Image) → lookup (nat_eq page) es ≡ Some old → set_value (nat_eq page) es old ≡ es
 set_same page [] old is = refl
 set_same page (e ∷ es) old is = grind (arith, nat_tests, set_same page es old)

@@ -5,7 +5,7 @@ ghost use Rattle.std.specs.Map.{lookup, remove_entry};
 ghost use Rattle.std.specs.Borrow.{sem};
 ghost use Rattle.std.specs.Option.{option_copied};
 ghost use Rattle.page_model.specs.Effects.{page_of};
-ghost use Rattle.page_model.specs.Pool.{OneEach, pool, image_of, without, used, last_durable, put_in};
+ghost use Rattle.page_model.specs.Pool.{OneEach, pool, image_of, without, used, replaced, last_durable, put_in};
 ghost use Rattle.page_redo.specs.Redo.{Answers};
 ghost use Rattle.buffer_pool.specs.Change.{change_of};
 
@@ -150,6 +150,19 @@ impl Pool {
         };
         apply(image, change, stamp)?;
         Ok(())
+    }
+
+    /// Puts an image into the place of the one of its page, if there is one. The order of use stays as it is. It takes
+    /// no memory.
+    #[tactic(auto, using(crate::proofs::ChangeLemmas::set_under, crate::proofs::ChangeLemmas::stays_out, crate::proofs::ChangeLemmas::own_set, crate::proofs::ChangeLemmas::set_length, crate::proofs::OneLemmas::one_set))]
+    pub fn exchange(&mut self, image: Image)
+        ensures { self.new ≡ pool (replaced image self.old.images) self.old.places }
+    {
+        let page = image.page.0;
+        let Some(place) = self.cache.peek_mut(&page) else {
+            return;
+        };
+        *place = image;
     }
 
     // The least recently used page whose image is durable.

@@ -3,3 +3,4 @@ pub mod OrderLemmas
 pub mod LetGoLemmas
 mod ResendLemmas
 mod TakenBackLemmas
+mod LastLemmas

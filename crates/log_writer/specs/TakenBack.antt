@@ -1,5 +1,5 @@
--- An acknowledgement that is taken back.
-use Rattle.std.specs.Prelude.{ℕ, ◌-◌, cond, not, ◌&&◌, nat_eq, List, Option, Some, None, slice_get, slice_set}
+-- An acknowledgement that is taken back, and a group.
+use Rattle.std.specs.Prelude.{ℕ, ◌-◌, cond, not, ◌&&◌, nat_eq, List, length, take, Option, Some, None, slice_get, slice_set}
 use Rattle.log_writer.specs.declared.acks.Acks.{Acks}
 use Rattle.log_writer.specs.declared.logged.Logged.{Logged}
 use Rattle.log_writer.specs.Log.{Log}
@@ -23,3 +23,7 @@ taken_at groups store place = cond (nat_eq place 0) groups (taken_there groups s
 -- The log without a store's acknowledgement of the group of a number.
 abbrev pub taken_back : Log → ℕ → ℕ → Log
 taken_back log store seq = record log { groups = taken_at log.groups store (seq - log.gone) }
+
+-- The log without its last group, if it still has one.
+abbrev pub without_last : Log → Log
+without_last log = record log { groups = take (length log.groups - 1) log.groups }

@@ -7,7 +7,7 @@ ghost use Rattle.tm_data.specs.declared.log.Group.{Group};
 ghost use Rattle.log_writer.specs.Acks.{all_acks, has};
 ghost use Rattle.log_writer.specs.declared.logged.Logged.{Logged};
 ghost use Rattle.log_writer.specs.Log.{acked, appended, durable_seq, durable_stamp, is_marked, IsLog, lacking, last_seq, last_stamp, let_go, Log, numbered, resent, settled};
-ghost use Rattle.log_writer.specs.TakenBack.{taken_back};
+ghost use Rattle.log_writer.specs.TakenBack.{taken_back, without_last};
 
 /// The number of the last durable group never falls. Refused is an acknowledgement that takes another back.
 pub fn durable_never_falls()
@@ -52,4 +52,10 @@ pub fn letting_go_changes_no_answer()
 pub fn an_acknowledgement_is_taken_back_whole()
     ensures back { (log : Log) (store seq : ℕ) → is_marked log seq store ≡ false → taken_back (acked log store seq) store seq ≡ log }
     ensures again { (log : Log) (store seq : ℕ) → is_marked log seq store ≡ true → acked log store seq ≡ log }
+{}
+
+/// A group that was logged is dropped whole: the log is as it was. Refused are a log that drops its first group, and one
+/// that drops the last two.
+pub fn a_group_is_dropped_whole()
+    ensures { (log : Log) (group : Group) → without_last (appended log group) ≡ log }
 {}

@@ -2,7 +2,7 @@
 ghost use Rattle.std.specs.Prelude.{◌≡◌, ◌+◌, ◌<◌, ◌≤◌, ◌^◌, IfOk, OnOk, OnErr, length};
 ghost use Rattle.std.specs.Option.{option_copied};
 ghost use Rattle.log_writer.specs.Log.{acked, appended, appended_all, AreNext, durable_count, durable_seq, durable_stamp, group_of, IsLog, lacking, last_seq, last_stamp, let_go, new_log, numbered, reached, resent, settled};
-ghost use Rattle.log_writer.specs.TakenBack.{taken_back};
+ghost use Rattle.log_writer.specs.TakenBack.{taken_back, without_last};
 
 use crate::rows::{at, drop_front, first_lacking, mark, stamp_at, unacknowledged, unmark, walk_on};
 use crate::{Acks, Logged};
@@ -120,6 +120,18 @@ impl LogWriter {
             return Err(NoMemory);
         };
         Ok(())
+    }
+
+    /// Drops the last group, if it is still here. It takes no memory. So a step that logs a group can be given up where
+    /// what follows wants memory.
+    pub fn drop_last(&mut self)
+        ensures { self.new ≡ without_last self.old }
+    {
+        let count = self.groups.len().saturating_sub(1);
+        self.groups.truncate(count);
+        self.first = self.first.min(count);
+        self.second = self.second.min(count);
+        self.third = self.third.min(count);
     }
 
     /// A log store acknowledged the group of that number. Of a store outside 1 to 3, or a number not yet

@@ -1,20 +1,12 @@
--- The finite set that an ordered set's keys stand for, when a key goes.
+-- A key of a finite set goes, or is put again.
 use Rattle.std.proofs.Common.{◌≡◌, Bool, true, false, refl, sym, ◌∙◌, ap, cond}
 use Rattle.std.specs.Prelude.{not, ◌&&◌, ◌||◌}
 use Rattle.std.specs.declared.cmp.Ordering.{Ordering}
 use Rattle.std.specs.declared.cmp.Ordering.TheVariants.{Less, Equal, Greater}
-use Rattle.std.specs.Cmp.{IsTotalOrder, eq_by_cmp_equiv}
+use Rattle.std.specs.Cmp.{IsTotalOrder}
 use Rattle.std.specs.Ordering.{eq_by_cmp, is_eq}
 use Rattle.std.specs.FinMap.{IsAntisymmetric}
-use Rattle.std.specs.BTreeMap.{is_at}
-use Rattle.std.specs.BTreeSet as ordered
-use Rattle.std.specs.BTreeSet.{BTreeSet}
 use Rattle.std.specs.FinSet as sets
-use Rattle.tm_data.specs.Maps.{as_set, contains-as_set}
-
-not_and : (a b : Bool) → cond a false b ≡ (not a && b)
-not_and true b = refl
-not_and false b = refl
 
 and_again : (a b : Bool) → (a ≡ true → b ≡ false) → (not a && (a || b)) ≡ b
 and_again true b h = sym (h refl)
@@ -30,11 +22,6 @@ equal Equal h = refl
 equal Greater h = absurd (cc h)
 
 module _ {K : Type 0} {R : K → K → Ordering} (total : IsTotalOrder R) where
-  pub remove-as_set : IsAntisymmetric R → (s t : BTreeSet K) (k : K) → ((q : K) → ordered.contains R t q ≡ cond (is_at (R k) q) false (ordered.contains R s q)) → as_set {R = R} t ≡ sets.remove (as_set s) k
-  remove-as_set exact s t k updates = sets.same_set total exact _ _ (λ q.
-      contains-as_set total t q ∙ updates q ∙ ap (λ b. cond b false (ordered.contains R s q)) ((eq_by_cmp_equiv total).symm k q) ∙ not_and (is_at (R q) k) _
-      ∙ sym (sets.contains-remove total (as_set s) k q ∙ ap (λ b. not (eq_by_cmp R q k) && b) (contains-as_set total s q)))
-
   -- a key that wasn't there comes and goes
   pub remove-insert : IsAntisymmetric R → (s : sets.FinSet R) (k : K) → sets.contains s k ≡ false → sets.remove (sets.insert s k) k ≡ s
   remove-insert exact s k absent = sets.same_set total exact _ _ (λ q.

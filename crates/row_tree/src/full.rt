@@ -22,7 +22,7 @@ fn present_size(rows: &RowList, key: &Key) -> usize
 
 /// Whether a page is full: a leaf in which the row doesn't fit, or an inner page with less room than
 /// one more entry may need. The leaf is searched only where the row would not fit beside all others.
-fn is_full(row: &Row, image: &Image) -> bool
+pub fn is_full(row: &Row, image: &Image) -> bool
     ensures { result ≡ is_full row.entry.now image.now.body }
 {
     match &image.body {

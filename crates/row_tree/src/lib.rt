@@ -18,6 +18,7 @@ mod place;
 mod plan;
 
 pub use fence::level_of;
+pub use full::is_full;
 pub use pages::Pages;
 pub use path::{FindError, Path, find};
 pub use place::{Place, child_at, child_for, entries_up_to, is_at};

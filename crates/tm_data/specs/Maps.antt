@@ -1,10 +1,13 @@
--- The finite map that an ordered map's entries stand for, and the finite set that an ordered set's keys do.
-use Rattle.std.specs.Prelude.{◌≡◌, List, [], ◌∷◌, length, Some, None, true, false, Bool, ◌||◌}
-use Rattle.std.proofs.Common.{refl, sym, ◌∙◌, ap, cond, arith}
+-- The finite map that an ordered map's entries stand for, and the finite set that an ordered set's keys do, or the finite
+-- map from each of them to nothing.
+use Rattle.std.specs.Prelude.{◌≡◌, List, [], ◌∷◌, length, map, Option, Some, None, true, false, Bool, is_some, not, ◌&&◌, ◌||◌}
+use Rattle.std.proofs.Common.{refl, sym, subst, ◌∙◌, ap, cond, arith}
 use Rattle.std.specs.declared.cmp.Ordering.{Ordering}
 use Rattle.std.specs.Cmp.{IsTotalOrder, eq_by_cmp_equiv}
-use Rattle.std.specs.FinMap.{FinMap, IsAntisymmetric, entries, empty, from_entries, find, get, insert, remove, get-from_entries, get-insert, get-remove, same_map, entries-insert, len-entries, len-empty}
+use Rattle.std.specs.FinMap.{FinMap, IsAntisymmetric, entries, empty, from_entries, find, get, contains_key, keys, insert, remove, get-from_entries, get-insert, get-remove, same_map, entries-insert, len-entries, len-empty}
 use Rattle.std.specs.FinMap.Entries.{put, by_order}
+use Rattle.std.specs.List.{list_any}
+use Rattle.std.specs.Ordering.{eq_by_cmp}
 use Rattle.std.specs.List.Sorted.{IsStrictlySortedBy}
 use Rattle.std.specs.BTreeMap as tree
 use Rattle.std.specs.BTreeMap.{BTreeMap, is_at}
@@ -64,6 +67,10 @@ or_cond : (a b : Bool) → cond a true b ≡ (a || b)
 or_cond true b = refl
 or_cond false b = refl
 
+not_cond : (a b : Bool) → cond a false b ≡ (not a && b)
+not_cond true b = refl
+not_cond false b = refl
+
 module _ {K : Type 0} {R : K → K → Ordering} (total : IsTotalOrder R) where
   pub contains-as_set : (s : BTreeSet K) (q : K) → sets.contains (as_set {R = R} s) q ≡ ordered.contains R s q
   contains-as_set s q = sets.contains-from_list total s.keys q
@@ -72,3 +79,65 @@ module _ {K : Type 0} {R : K → K → Ordering} (total : IsTotalOrder R) where
   insert-as_set exact s t k updates = sets.same_set total exact _ _ (λ q.
       contains-as_set t q ∙ updates q ∙ ap (λ b. cond b true (ordered.contains R s q)) ((eq_by_cmp_equiv total).symm k q) ∙ or_cond (is_at (R q) k) _
       ∙ sym (sets.contains-insert total (as_set s) k q ∙ ap (λ b. is_at (R q) k || b) (contains-as_set s q)))
+
+  pub remove-as_set : IsAntisymmetric R → (s t : BTreeSet K) (k : K) → ((q : K) → ordered.contains R t q ≡ cond (is_at (R k) q) false (ordered.contains R s q)) → as_set {R = R} t ≡ sets.remove (as_set s) k
+  remove-as_set exact s t k updates = sets.same_set total exact _ _ (λ q.
+      contains-as_set t q ∙ updates q ∙ ap (λ b. cond b false (ordered.contains R s q)) ((eq_by_cmp_equiv total).symm k q) ∙ not_cond (is_at (R q) k) _
+      ∙ sym (sets.contains-remove total (as_set s) k q ∙ ap (λ b. not (eq_by_cmp R q k) && b) (contains-as_set s q)))
+
+-- ---- the map from each key to nothing
+
+abbrev pub marked : {K : Type 0} → List K → List (K × Unit {0})
+marked ks = map (λ k. (k, tt)) ks
+
+-- The map from an ordered set's keys to nothing. Unlike those of a finite set its keys are known in their order.
+abbrev pub as_keys : {K : Type 0} {R : K → K → Ordering} → BTreeSet K → FinMap R (Unit {0})
+as_keys s = from_entries (marked s.keys)
+
+abbrev mark : Bool → Option (Unit {0})
+mark b = cond b (Some tt) None
+
+is_some-mark : (b : Bool) → is_some (mark b) ≡ b
+is_some-mark true = refl
+is_some-mark false = refl
+
+mark_or : (a b : Bool) → cond a (Some tt) (mark b) ≡ mark (a || b)
+mark_or true b = refl
+mark_or false b = refl
+
+mark_more : (a b : Bool) → mark (cond a true b) ≡ cond a (Some tt) (mark b)
+mark_more true b = refl
+mark_more false b = refl
+
+mark_less : (a b : Bool) → mark (cond a false b) ≡ cond a None (mark b)
+mark_less true b = refl
+mark_less false b = refl
+
+marked_keys : {K : Type 0} (ks : List K) → keys_of (marked ks) ≡ ks
+marked_keys [] = refl
+marked_keys (k ∷ ks) = ap (λ l. k ∷ l) (marked_keys ks)
+
+module _ {K : Type 0} {R : K → K → Ordering} (total : IsTotalOrder R) where
+  find_marked : (ks : List K) (q : K) → find R q (marked ks) ≡ mark (list_any (eq_by_cmp R q) ks)
+  find_marked [] q = refl
+  find_marked (k ∷ ks) q = ap (cond (eq_by_cmp R q k) (Some tt)) (find_marked ks q) ∙ mark_or (eq_by_cmp R q k) _
+
+  get-as_keys : (s : BTreeSet K) (q : K) → get (as_keys {R = R} s) q ≡ mark (ordered.contains R s q)
+  get-as_keys s q = get-from_entries total (marked s.keys) q ∙ find_marked s.keys q
+
+  pub contains-as_keys : (s : BTreeSet K) (q : K) → contains_key (as_keys {R = R} s) q ≡ ordered.contains R s q
+  contains-as_keys s q = ap is_some (get-as_keys s q) ∙ is_some-mark _
+
+  pub insert-as_keys : IsAntisymmetric R → (s t : BTreeSet K) (k : K) → ((q : K) → ordered.contains R t q ≡ cond (is_at (R k) q) true (ordered.contains R s q)) → as_keys {R = R} t ≡ insert (as_keys s) k tt
+  insert-as_keys exact s t k updates = same_map total exact _ _ (λ q.
+      get-as_keys t q ∙ ap mark (updates q) ∙ ap (λ b. mark (cond b true (ordered.contains R s q))) ((eq_by_cmp_equiv total).symm k q) ∙ mark_more (is_at (R q) k) _
+      ∙ sym (get-insert total (as_keys s) k tt q ∙ ap (cond (is_at (R q) k) (Some tt)) (get-as_keys s q)))
+
+  pub remove-as_keys : IsAntisymmetric R → (s t : BTreeSet K) (k : K) → ((q : K) → ordered.contains R t q ≡ cond (is_at (R k) q) false (ordered.contains R s q)) → as_keys {R = R} t ≡ remove (as_keys s) k
+  remove-as_keys exact s t k updates = same_map total exact _ _ (λ q.
+      get-as_keys t q ∙ ap mark (updates q) ∙ ap (λ b. mark (cond b false (ordered.contains R s q))) ((eq_by_cmp_equiv total).symm k q) ∙ mark_less (is_at (R q) k) _
+      ∙ sym (get-remove total (as_keys s) k q ∙ ap (cond (is_at (R q) k) None) (get-as_keys s q)))
+
+  -- the keys, ascending
+  pub keys-as_keys : (s : BTreeSet K) → IsStrictlySortedBy R s.keys → keys (as_keys {R = R} s) ≡ s.keys
+  keys-as_keys s h = ap keys_of (entries-from_entries total (marked s.keys) (subst (IsStrictlySortedBy R) (sym (marked_keys s.keys)) h)) ∙ marked_keys s.keys

@@ -1,7 +1,7 @@
 use Rattle.std.proofs.Common.{◌∙◌, ap}
 use Rattle.std.specs.FinSet.{remove}
 use Rattle.tm_data.specs.Orders.{txn_cmp-total, txn_cmp-exact}
-use Rattle.master_parts.proofs.SetLemmas.{remove-as_set}
+use Rattle.tm_data.specs.Maps.{remove-as_set}
 use Rattle.master_parts.proofs.txn_set.TxnSet.remove.Goals as goal
 
 pub returns : goal.returns
