@@ -44,7 +44,7 @@ pub fn commit(work: &mut WorkState, session: u16) -> Mem<Answer>
             let answer = commit_active(work, session)?;
             Ok(answer)
         }
-        Progress::Undoing { .. } => Ok(work.says(Reply::Ending { txn })),
+        Progress::Undoing => Ok(work.says(Reply::Ending { txn })),
         Progress::Ended {
             committed: false,
             ..

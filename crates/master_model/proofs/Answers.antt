@@ -23,7 +23,7 @@ use Rattle.master_model.specs.declared.session.Progress.{Progress}
 use Rattle.master_model.specs.declared.session.Progress.TheVariants.{Active, Undoing, Ended}
 use Rattle.log_writer.specs.Log.{lacking}
 use Rattle.lock_table.specs.Tags.{Tags, is_full as tags_full, page_tag, same_txn, tags_on, takes, with_tag, others_on, foreign_on}
-use Rattle.master_model.specs.State.{Work, Answer, answers, durable, says, to_locks}
+use Rattle.master_model.specs.State.{Rows, Work, Answer, answers, durable, says, to_locks}
 use Rattle.master_model.specs.Fates as fates
 use Rattle.master_model.specs.Fates.{is_ended, is_own, Standing, Free, Locks, Unknown, named, unless, or_later}
 use Rattle.master_model.specs.Paths as paths
@@ -73,7 +73,7 @@ pub record Answered (session : ℕ) (P : Work → Answer → Type 0) : Type 0 wh
   pub tag : (w : Work) (page : ℕ) (key : List ℕ) (number : ℕ) (value : Option (List ℕ)) → P w (says (record w { tags = with_tag w.tags page key (txn_numbered w number) }) (reply.Value value))
   pub put : (w : Work) (p : Put) (leaf : Image) (path fresh : List Page) (groups : List (List Record)) → HasRoom w (length groups) → P w (put_logged p leaf path fresh (logs w groups))
   pub end : (w : Work) (session : ℕ) (own : Own) (committed : Bool) (groups : List (List Record)) → HasRoom w (length groups) → P w (ends.ends session own committed (logs w groups))
-  pub left : (w : Work) (session : ℕ) (own : Own) (rows : List RowKey) (groups : List (List Record)) → 1 ≤ length rows → HasRoom w (length groups) → P w (ends.rows_left session own rows (logs w groups))
+  pub left : (w : Work) (session : ℕ) (own : Own) (rest : Rows) (rows : List RowKey) (groups : List (List Record)) → 1 ≤ length rows → HasRoom w (length groups) → P w (ends.rows_left session own rest rows (logs w groups))
   pub undone : (w : Work) (groups : List (List Record)) → HasRoom w (length groups) → P w (ends.undone_logged (logs w groups))
   pub over : (w : Work) (own : Own) (committed : Bool) (seq : ℕ) → EndsHere w session own committed seq → P w (says (free w session) (end_reply committed (txn_numbered w own.number)))
 
@@ -198,7 +198,7 @@ module _ {session : ℕ} {P : Work → Answer → Type 0} (c : Answered session 
 
   active_says : (w : Work) (own : Own) (p : Progress) (a : Answer) → fin.get w.sessions session ≡ Some own → own.progress ≡ p → P w a → P w (reads.if_active w (txn_numbered w own.number) p a)
   active_says w own Active a is at h = h
-  active_says w own (Undoing left) a is at h = ending w own (Undoing left) is at (λ e. cc e)
+  active_says w own Undoing a is at h = ending w own Undoing is at (λ e. cc e)
   active_says w own (Ended committed seq) a is at h = ending w own (Ended committed seq) is at (λ e. cc e)
 
   named_says : (w : Work) (table : ℕ) (key : List ℕ) (a : Answer) → P w a → P w (reads.if_named w table key a)
@@ -316,24 +316,24 @@ module _ {session : ℕ} {P : Work → Answer → Type 0} (c : Answered session 
       by own is Active at = end_says w session own true (ends.end_of (txn_numbered w own.number) true ∷ []) 1 refl
       by own is (Ended true seq) at = answers_say w own true seq is at
       by own is (Ended false seq) at = ending w own (Ended false seq) is at (λ e. cc e)
-      by own is (Undoing rows) at = ending w own (Undoing rows) is at (λ e. cc e)
+      by own is Undoing at = ending w own Undoing is at (λ e. cc e)
 
-  abort_says_with : (w : Work) (session : ℕ) (own : Own) (t : Txn) (undone : List (List Record)) (rows : List RowKey) → P w (ends.aborts_with w session own t undone rows)
-  abort_says_with w session own t undone [] = end_says w session own false (undone ++ ends.end_of t false ∷ []) (length undone + 1) (length-append undone (ends.end_of t false ∷ []))
-  abort_says_with w session own t undone (k ∷ ks) = room_says w (length undone) _ (c.left w session own (k ∷ ks) undone (omega arith))
+  abort_says_with : (w : Work) (session : ℕ) (own : Own) (t : Txn) (rest : Rows) (undone : List (List Record)) (rows : List RowKey) → P w (ends.aborts_with w session own t rest undone rows)
+  abort_says_with w session own t rest undone [] = end_says w session own false (undone ++ ends.end_of t false ∷ []) (length undone + 1) (length-append undone (ends.end_of t false ∷ []))
+  abort_says_with w session own t rest undone (k ∷ ks) = room_says w (length undone) _ (c.left w session own rest (k ∷ ks) undone (omega arith))
 
   abort_says_rows : (w : Work) (session : ℕ) (own : Own) (t : Txn) (rows : List RowKey) → P w (ends.aborts_rows w session own t rows)
-  abort_says_rows w session own t [] = abort_says_with w session own t [] []
+  abort_says_rows w session own t [] = abort_says_with w session own t own.written [] []
   abort_says_rows w session own t (k ∷ ks) =
-      path_says w k.table k.key (λ used path leaf. ends.aborts_with used session own t (ends.undo leaf k.table k.key t) ks) (λ path leaf.
-      abort_says_with (uses w path) session own t (ends.undo leaf k.table k.key t) ks)
+      path_says w k.table k.key (λ used path leaf. ends.aborts_with used session own t (fin.remove own.written k) (ends.undo leaf k.table k.key t) ks) (λ path leaf.
+      abort_says_with (uses w path) session own t (fin.remove own.written k) (ends.undo leaf k.table k.key t) ks)
 
   pub abort_says : (w : Work) → P w (ends.abort w session)
   abort_says w = session_says w _ (λ own is. by own is own.progress refl)
     where
       by : (own : Own) → fin.get w.sessions session ≡ Some own → (p : Progress) → own.progress ≡ p → P w (ends.aborts w session own (txn_numbered w own.number) p)
-      by own is Active at = abort_says_rows w session own (txn_numbered w own.number) (sets.items own.written)
-      by own is (Undoing rows) at = abort_says_rows w session own (txn_numbered w own.number) rows
+      by own is Active at = abort_says_rows w session own (txn_numbered w own.number) (fin.keys own.written)
+      by own is Undoing at = abort_says_rows w session own (txn_numbered w own.number) (fin.keys own.written)
       by own is (Ended false seq) at = answers_say w own false seq is at
       by own is (Ended true seq) at = ending w own (Ended true seq) is at (λ e. cc e)
 

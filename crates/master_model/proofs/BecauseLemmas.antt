@@ -98,7 +98,7 @@ reasons session = record {
       let a : Answer = ends in_session own committed (logs w groups) in
       let seq : ℕ = last_seq (logs w groups).work.log in
       waits_because session w a.work (appends a.work a.groups ++ a.messages) seq (awaited a.work seq) refl;
-  left = λ w in_session own rows groups some room. some;
+  left = λ w in_session own rest rows groups some room. some;
   undone = λ w groups room. tt;
   over = λ w own committed seq h. over_because session w (free w session) [] committed (txn_numbered w own.number);
 }

@@ -50,7 +50,7 @@ end_answers session = record {
   tag = λ w page key number value. tt;
   put = λ w p leaf path fresh groups room. tt;
   end = λ w in_session own committed groups room. done_says session w _;
-  left = λ w in_session own rows groups some room. tt;
+  left = λ w in_session own rest rows groups some room. tt;
   undone = λ w groups room. tt;
   over = λ w own committed seq h. end_says session w own committed seq h;
 }

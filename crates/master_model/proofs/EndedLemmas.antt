@@ -45,7 +45,7 @@ answered_ends begun gs s session asked f = by s.life f (ends_are_durable s sessi
 
 over_ended : (log : Whole) (number : ℕ) (p : Progress) → is_over (log.durable) p ≡ true → Fits log number p → EndIsDurable log number
 over_ended log number Active is f = absurd (cc is)
-over_ended log number (Undoing left) is f = absurd (cc is)
+over_ended log number Undoing is f = absurd (cc is)
 over_ended log number (Ended committed seq) is f = (committed, record { seq = seq; at = f; is_durable = grind (arith, nat_tests) })
 
 pub ended_durable : (begun : ℕ) (gs : List Group) (w : Work) (number : ℕ) → WorkFacts begun gs w → has_ended w number ≡ true → EndIsDurable (whole_of gs w.log) number

@@ -19,7 +19,7 @@ use Rattle.lease_desk.specs.Desk.{is_held, is_ready, is_releasing, lease_of, rec
 use Rattle.master_model.specs.declared.session.Own.{Own}
 use Rattle.master_model.specs.declared.session.Progress.TheVariants.{Active, Undoing, Ended}
 use Rattle.lock_table.specs.Tags.{with_tag}
-use Rattle.master_model.specs.State.{Work, durable, settled}
+use Rattle.master_model.specs.State.{Rows, Work, durable, settled}
 use Rattle.master_model.specs.Fates.{hears, is_own, named, with_end}
 use Rattle.master_model.specs.Paths.{uses}
 use Rattle.master_model.specs.Logging.{with_change, next_group}
@@ -60,8 +60,8 @@ pub record GrowsFor (G : Work → Cause → Type 0) (K : List Group → Work →
       → K gs (record w { tags = with_tag w.tags page key (txn_numbered w own.number) })
   pub put : (w : Work) (p : Put) (leaf : Image) (path fresh : List Page) (count : ℕ) → fin.get w.sessions p.session ≡ Some p.own → fresh ≡ take count w.stock → (gs : List Group) → K gs w
       → K gs (with_session (record w { tags = tags_after w.tags leaf path fresh; stock = drop (length fresh) w.stock }) p.session (with_written p.own p.table p.row.key))
-  pub session : (w : Work) (session : ℕ) (own : Own) (left : List RowKey) → fin.get w.sessions session ≡ Some own → is_at_end own.progress ≡ false → (gs : List Group) → K gs w
-      → K gs (with_session w session (record own { progress = Undoing left }))
+  pub session : (w : Work) (session : ℕ) (own : Own) (rest : Rows) → fin.get w.sessions session ≡ Some own → is_at_end own.progress ≡ false → (gs : List Group) → K gs w
+      → K gs (with_session w session (record own { written = rest; progress = Undoing }))
   pub ends : (w : Work) (session : ℕ) (own : Own) (committed : Bool) → fin.get w.sessions session ≡ Some own → is_at_end own.progress ≡ false → HasRoom w 1 → (gs : List Group) → K gs w
       → K (gs ++ next_group w (end_of (txn_numbered w own.number) committed) ∷ []) (ended_in w session own committed)
   pub free : (w : Work) (session : ℕ) (own : Own) (committed : Bool) (seq : ℕ) → fin.get w.sessions session ≡ Some own → own.progress ≡ Ended committed seq → seq ≤ durable w → (gs : List Group) → K gs w → K gs (free w session)

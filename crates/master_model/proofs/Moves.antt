@@ -27,7 +27,7 @@ use Rattle.master_model.specs.declared.session.Own.{Own}
 use Rattle.master_model.specs.declared.session.Progress.{Progress}
 use Rattle.master_model.specs.declared.session.Progress.TheVariants.{Active, Undoing, Ended}
 use Rattle.lock_table.specs.Tags.{same_txn, takes, with_tag, others_on, foreign_on}
-use Rattle.master_model.specs.State.{Work, Answer, durable, settled}
+use Rattle.master_model.specs.State.{Rows, Work, Answer, durable, settled}
 use Rattle.master_model.specs.Fates as fates
 use Rattle.master_model.specs.Fates.{Standing, Free, Locks, Unknown, hears, is_own, named, with_end, unless, or_later}
 use Rattle.master_model.specs.Paths as paths
@@ -68,7 +68,7 @@ fresh_taken w page = record w {
 }
 
 abbrev pub begun_in : Work → ℕ → Work
-begun_in w session = with_session (record w { begun = w.begun + 1 }) session (record { number = w.begun + 1; written = sets.empty; progress = Active })
+begun_in w session = with_session (record w { begun = w.begun + 1 }) session (record { number = w.begun + 1; written = fin.empty; progress = Active })
 
 -- A session's transaction has its end in the log, as the next group.
 abbrev pub ended_in : Work → ℕ → Own → Bool → Work
@@ -123,7 +123,7 @@ pub record ClosedFor (G : Work → Cause → Type 0) (R : Work → Work → Type
       → R w (record w { tags = with_tag w.tags page key (txn_numbered w own.number) })
   pub put : (w : Work) (p : Put) (leaf : Image) (path fresh : List Page) (count : ℕ) → fin.get w.sessions p.session ≡ Some p.own → fresh ≡ take count w.stock
       → R w (with_session (record w { tags = tags_after w.tags leaf path fresh; stock = drop (length fresh) w.stock }) p.session (with_written p.own p.table p.row.key))
-  pub session : (w : Work) (session : ℕ) (own : Own) (left : List RowKey) → fin.get w.sessions session ≡ Some own → is_at_end own.progress ≡ false → R w (with_session w session (record own { progress = Undoing left }))
+  pub session : (w : Work) (session : ℕ) (own : Own) (rest : Rows) → fin.get w.sessions session ≡ Some own → is_at_end own.progress ≡ false → R w (with_session w session (record own { written = rest; progress = Undoing }))
   pub ends : (w : Work) (session : ℕ) (own : Own) (committed : Bool) → fin.get w.sessions session ≡ Some own → is_at_end own.progress ≡ false → HasRoom w 1 → R w (ended_in w session own committed)
   pub free : (w : Work) (session : ℕ) (own : Own) (committed : Bool) (seq : ℕ) → fin.get w.sessions session ≡ Some own → own.progress ≡ Ended committed seq → seq ≤ durable w → R w (free w session)
 
@@ -379,29 +379,29 @@ module _ {G : Work → Cause → Type 0} {R : Work → Work → Type 0} (c : Clo
       by own is Active at = end_logs w session own true [] 1 refl tt is (ap is_at_end at)
       by own is (Ended true seq) at = answers_move w session own true seq (reply.Committed (txn_numbered w own.number)) is at
       by own is (Ended false seq) at = c.none w
-      by own is (Undoing left) at = c.none w
+      by own is Undoing at = c.none w
 
-  abort_with : (w : Work) (session : ℕ) (own : Own) (undone : List (List Record)) (left : List RowKey) → NoEnds undone → fin.get w.sessions session ≡ Some own → is_at_end own.progress ≡ false
-      → R w (ends.aborts_with w session own (txn_numbered w own.number) undone left).work
-  abort_with w session own undone [] none is going = end_logs w session own false undone (length undone + 1) refl none is going
-  abort_with w session own undone (k ∷ ks) none is going = room_moves w (length undone) _ (λ room.
+  abort_with : (w : Work) (session : ℕ) (own : Own) (rest : Rows) (undone : List (List Record)) (left : List RowKey) → NoEnds undone → fin.get w.sessions session ≡ Some own → is_at_end own.progress ≡ false
+      → R w (ends.aborts_with w session own (txn_numbered w own.number) rest undone left).work
+  abort_with w session own rest undone [] none is going = end_logs w session own false undone (length undone + 1) refl none is going
+  abort_with w session own rest undone (k ∷ ks) none is going = room_moves w (length undone) _ (λ room.
       c.both w (logs w undone).work _ (logs_moves w undone none room)
-      (c.session (logs w undone).work session own (k ∷ ks) (ap (λ (m : Sessions). fin.get m session) (logs_beside w undone).0 ∙ is) going))
+      (c.session (logs w undone).work session own rest (ap (λ (m : Sessions). fin.get m session) (logs_beside w undone).0 ∙ is) going))
 
   abort_rows : (w : Work) (session : ℕ) (own : Own) (left : List RowKey) → fin.get w.sessions session ≡ Some own → is_at_end own.progress ≡ false
       → R w (ends.aborts_rows w session own (txn_numbered w own.number) left).work
-  abort_rows w session own [] is going = abort_with w session own [] [] tt is going
+  abort_rows w session own [] is going = abort_with w session own own.written [] [] tt is going
   abort_rows w session own (k ∷ ks) is going =
       let t : Txn = txn_numbered w own.number in
-      found_moves w k.table k.key (λ used path leaf. ends.aborts_with used session own t (ends.undo leaf k.table k.key t) ks) (λ path leaf held.
-      abort_with (uses w path) session own (ends.undo leaf k.table k.key t) ks (undo_has_none leaf k.table k.key t) is going)
+      found_moves w k.table k.key (λ used path leaf. ends.aborts_with used session own t (fin.remove own.written k) (ends.undo leaf k.table k.key t) ks) (λ path leaf held.
+      abort_with (uses w path) session own (fin.remove own.written k) (ends.undo leaf k.table k.key t) ks (undo_has_none leaf k.table k.key t) is going)
 
   pub abort_moves : (w : Work) (session : ℕ) → R w (ends.abort w session).work
   abort_moves w session = session_moves w session _ (λ own is. by own is own.progress refl)
     where
       by : (own : Own) → fin.get w.sessions session ≡ Some own → (p : Progress) → own.progress ≡ p → R w (ends.aborts w session own (txn_numbered w own.number) p).work
-      by own is Active at = abort_rows w session own (sets.items own.written) is (ap is_at_end at)
-      by own is (Undoing left) at = abort_rows w session own left is (ap is_at_end at)
+      by own is Active at = abort_rows w session own (fin.keys own.written) is (ap is_at_end at)
+      by own is Undoing at = abort_rows w session own (fin.keys own.written) is (ap is_at_end at)
       by own is (Ended false seq) at = answers_move w session own false seq (reply.Aborted (txn_numbered w own.number)) is at
       by own is (Ended true seq) at = c.none w
 

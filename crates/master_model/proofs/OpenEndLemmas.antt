@@ -61,7 +61,7 @@ open_unsettled begun gs w number committed f is e = of (open_is_in w number is)
 
         by : (p : Progress) → o.own.progress ≡ p → is_over (durable w) p ≡ false → Fits (whole_of gs w.log) o.own.number p → ⊥
         by Active at goes fits = none (ap is_at_end at)
-        by (Undoing left) at goes fits = none (ap is_at_end at)
+        by Undoing at goes fits = none (ap is_at_end at)
         by (Ended outcome seq) at goes fits =
             let one : seq ≡ mine.seq = same_seq gs seq mine.seq (own_txn w.log.writer o.own.number) outcome committed fits mine.at f.of_ends.once in
             let yes : nat_le seq (durable w) ≡ true = ap (λ (n : ℕ). nat_le n (durable w)) one ∙ below mine.seq (durable w) mine.is_durable in

@@ -79,7 +79,7 @@ get_reads w session table key value is = in_session (fin.get w.sessions session)
     active : (own : Own) → fin.get w.sessions session ≡ Some own → (p : Progress)
         → (reads.if_active w (txn_numbered w own.number) p (reads.if_named w table key (paths.on_path w table key (reads.get_at key (txn_numbered w own.number))))).reply ≡ reply.Value value → Reads w session table key value
     active own of Active k = named own of (reads.is_table table) (nat_le (length key) 64) k
-    active own of (Undoing rows) k = absurd (cc k)
+    active own of Undoing k = absurd (cc k)
     active own of (Ended committed seq) k = absurd (cc k)
 
     in_session : (o : Option Own) → fin.get w.sessions session ≡ o

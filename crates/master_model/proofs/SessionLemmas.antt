@@ -45,7 +45,7 @@ end_stays a b seq number committed goes e =
 
 fits_stay : (a b : Whole) (number : ℕ) (p : Progress) → WholeGoes a b → Fits a number p → Fits b number p
 fits_stay a b number Active goes f = tt
-fits_stay a b number (Undoing left) goes f = tt
+fits_stay a b number Undoing goes f = tt
 fits_stay a b number (Ended committed seq) goes f = end_stays a b seq number committed goes f
 
 pub durable_stays : (a b : Whole) (number : ℕ) → WholeGoes a b → EndIsDurable a number → EndIsDurable b number

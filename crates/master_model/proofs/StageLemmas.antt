@@ -401,7 +401,7 @@ other_answers session = record {
   tag = λ w page key number value. tt;
   put = λ w p leaf path fresh groups room. tt;
   end = λ w session own committed groups room. tt;
-  left = λ w session own rows groups some room. tt;
+  left = λ w session own rest rows groups some room. tt;
   undone = λ w groups room. tt;
   over = λ w own committed seq is. tt;
 }

@@ -144,7 +144,7 @@ acked_open gs log new begun most number m rest gone same f none o = record { ses
 
     by : (p : Progress) → is_over old p ≡ false → Fits (whole_of gs log) o.own.number p → is_over most p ≡ false
     by Active goes fits = refl
-    by (Undoing left) goes fits = refl
+    by Undoing goes fits = refl
     by (Ended committed seq) goes fits = at (nat_le seq most) refl
       where
         at : (b : Bool) → nat_le seq most ≡ b → nat_le seq most ≡ false
@@ -284,7 +284,7 @@ begun_tags : (w : Work) (session : ℕ) → fin.get w.sessions session ≡ None 
 begun_tags w session none f = record { had = f.had; binds = λ t at. unended_on w (begun_in w session) t.txn (λ own. opens t.txn.number) refl refl (f.binds t at) }
   where
     new : Own
-    new = record { number = w.begun + 1; written = sets.empty; progress = Active }
+    new = record { number = w.begun + 1; written = fin.empty; progress = Active }
 
     opens : (n : ℕ) → 1 ≤ n → n ≤ w.begun + 1 → (n ≤ w.begun → OpenIn w.sessions (durable w) n) → OpenIn (fin.insert w.sessions session new) (durable w) n
     opens n from most old = by (nat_eq n (w.begun + 1)) refl

@@ -104,7 +104,7 @@ told_answers session = record {
   tag = λ w page key number value. record { logged = tt; told = tt };
   put = λ w p leaf path fresh groups room. record { logged = logged_in w groups room; told = tt };
   end = λ w session own committed groups room. record { logged = logged_in w groups room; told = tt };
-  left = λ w session own rows groups some room. record { logged = logged_in w groups room; told = tt };
+  left = λ w session own rest rows groups some room. record { logged = logged_in w groups room; told = tt };
   undone = λ w groups room. record { logged = logged_in w groups room; told = tt };
   over = λ w own committed seq is. record { logged = tt; told = tt };
 }

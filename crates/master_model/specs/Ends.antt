@@ -1,7 +1,6 @@
 -- The commands commit and abort, the undoing of rows, and what waits for a group to be durable.
 use Rattle.std.specs.Prelude.{ℕ, ◌+◌, Bool, true, false, cond, nat_le, List, [], ◌∷◌, ◌++◌, length}
 use Rattle.std.specs.FinMap as fin
-use Rattle.std.specs.FinSet as sets
 use Rattle.std.specs.declared.option.Option.{Option}
 use Rattle.std.specs.declared.option.Option.TheVariants.{None, Some}
 use Rattle.tm_data.specs.declared.image.Image.{Image}
@@ -20,7 +19,7 @@ use Rattle.lock_table.specs.Tags.{same_txn}
 use Rattle.master_model.specs.declared.session.Own.{Own}
 use Rattle.master_model.specs.declared.session.Progress.{Progress}
 use Rattle.master_model.specs.declared.session.Progress.TheVariants.{Active, Undoing, Ended}
-use Rattle.master_model.specs.State.{Work, Answer, says, durable}
+use Rattle.master_model.specs.State.{Rows, Work, Answer, says, durable}
 use Rattle.master_model.specs.Paths.{on_path, row_at}
 use Rattle.master_model.specs.Logging.{Logged, logs, with_room}
 use Rattle.master_model.specs.Reads.{in_session, txn_numbered, with_session}
@@ -82,7 +81,7 @@ abbrev pub commits : Work → ℕ → Own → Txn → Progress → Answer
 commits w session own t Active = with_room w 1 (ends session own true (logs w (end_of t true ∷ [])))
 commits w session own t (Ended true seq) = answers_end w session (reply.Committed t) (awaited w seq)
 commits w session own t (Ended false seq) = says w (reply.Ending t)
-commits w session own t (Undoing left) = says w (reply.Ending t)
+commits w session own t Undoing = says w (reply.Ending t)
 
 abbrev pub commit : Work → ℕ → Answer
 commit w session = in_session w session (λ own. commits w session own (txn_numbered w own.number) own.progress)
@@ -117,30 +116,30 @@ undo_next w table key t = on_path w table key (λ used path leaf. undoes (undo l
 
 -- ---- abort
 
--- So many rows are left.
-abbrev pub rows_left : ℕ → Own → List RowKey → Logged → Answer
-rows_left session own left l = record {
-  work = with_session l.work session (record own { progress = Undoing left });
+-- So many rows are left: those that are still noted as written.
+abbrev pub rows_left : ℕ → Own → Rows → List RowKey → Logged → Answer
+rows_left session own rest left l = record {
+  work = with_session l.work session (record own { written = rest; progress = Undoing });
   reply = reply.AgainRows (length left);
   groups = l.groups;
   messages = [];
 }
 
 -- With the last row the end is logged in the same step.
-abbrev pub aborts_with : Work → ℕ → Own → Txn → List (List Record) → List RowKey → Answer
-aborts_with w session own t undone [] =
+abbrev pub aborts_with : Work → ℕ → Own → Txn → Rows → List (List Record) → List RowKey → Answer
+aborts_with w session own t rest undone [] =
     with_room w (length undone + 1) (ends session own false (logs w (undone ++ end_of t false ∷ [])))
-aborts_with w session own t undone (k ∷ ks) =
-    with_room w (length undone) (rows_left session own (k ∷ ks) (logs w undone))
+aborts_with w session own t rest undone (k ∷ ks) =
+    with_room w (length undone) (rows_left session own rest (k ∷ ks) (logs w undone))
 
 -- One row is undone, the first one by table and key.
 abbrev pub aborts_rows : Work → ℕ → Own → Txn → List RowKey → Answer
-aborts_rows w session own t [] = aborts_with w session own t [] []
-aborts_rows w session own t (k ∷ ks) = on_path w k.table k.key (λ used path leaf. aborts_with used session own t (undo leaf k.table k.key t) ks)
+aborts_rows w session own t [] = aborts_with w session own t own.written [] []
+aborts_rows w session own t (k ∷ ks) = on_path w k.table k.key (λ used path leaf. aborts_with used session own t (fin.remove own.written k) (undo leaf k.table k.key t) ks)
 
 abbrev pub aborts : Work → ℕ → Own → Txn → Progress → Answer
-aborts w session own t Active = aborts_rows w session own t (sets.items own.written)
-aborts w session own t (Undoing left) = aborts_rows w session own t left
+aborts w session own t Active = aborts_rows w session own t (fin.keys own.written)
+aborts w session own t Undoing = aborts_rows w session own t (fin.keys own.written)
 aborts w session own t (Ended false seq) = answers_end w session (reply.Aborted t) (awaited w seq)
 aborts w session own t (Ended true seq) = says w (reply.Ending t)
 

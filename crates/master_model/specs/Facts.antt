@@ -195,12 +195,12 @@ pub record HasEndAt (groups : List Group) (seq : ℕ) (t : Txn) (committed : Boo
 -- A transaction that has ended has its end among the writer's groups, with its outcome, at the number that is kept of it.
 abbrev pub Fits : Whole → ℕ → Progress → Type 0
 Fits whole number Active = Unit {0}
-Fits whole number (Undoing left) = Unit {0}
+Fits whole number Undoing = Unit {0}
 Fits whole number (Ended committed seq) = HasEndAt whole.groups seq (own_txn whole.writer number) committed
 
 abbrev pub is_at_end : Progress → Bool
 is_at_end Active = false
-is_at_end (Undoing left) = false
+is_at_end Undoing = false
 is_at_end (Ended committed seq) = true
 
 -- The number of a session's transaction is one that was begun.

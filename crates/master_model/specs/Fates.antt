@@ -24,7 +24,7 @@ use Rattle.master_model.specs.State.{Work, Answer, Effect, answers, says, ignore
 -- A transaction has ended once its end is durable.
 abbrev pub is_over : ℕ → Progress → Bool
 is_over durable Active = false
-is_over durable (Undoing left) = false
+is_over durable Undoing = false
 is_over durable (Ended committed seq) = nat_le seq durable
 
 abbrev pub is_open_in : ℕ → ℕ → Own → Bool

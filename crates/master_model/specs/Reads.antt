@@ -1,7 +1,6 @@
 -- The commands begin and get.
 use Rattle.std.specs.Prelude.{ℕ, ◌+◌, ◌-◌, ◌^◌, Bool, true, false, ◌&&◌, nat_lt, nat_le, List, length}
 use Rattle.std.specs.FinMap as fin
-use Rattle.std.specs.FinSet as sets
 use Rattle.std.specs.declared.option.Option.{Option}
 use Rattle.std.specs.declared.option.Option.TheVariants.{None, Some}
 use Rattle.tm_data.specs.declared.image.Image.{Image}
@@ -44,7 +43,7 @@ if_active w t other goes_on = says w (reply.Ending t)
 abbrev pub begins : Work → ℕ → Bool → Answer
 begins w session false = says w reply.FullTransactions
 begins w session true =
-    says (with_session (record w { begun = w.begun + 1 }) session (record { number = w.begun + 1; written = sets.empty; progress = Active }))
+    says (with_session (record w { begun = w.begun + 1 }) session (record { number = w.begun + 1; written = fin.empty; progress = Active }))
     (reply.Begun (txn_numbered w (w.begun + 1)))
 
 abbrev pub begins_beside : Work → ℕ → Option Own → Answer

@@ -5,7 +5,6 @@ use Rattle.std.specs.List.{list_any}
 use Rattle.std.specs.Ordering.{nat_cmp, ordering_then}
 use Rattle.std.specs.FinMap.{FinMap}
 use Rattle.std.specs.FinMap as fin
-use Rattle.std.specs.FinSet.{FinSet}
 use Rattle.std.specs.FinSet as sets
 use Rattle.std.specs.declared.cmp.Ordering.{Ordering}
 use Rattle.std.specs.declared.option.Option.{Option}
@@ -71,16 +70,20 @@ pub record WrittenRow : Type 0 where
 abbrev pub written_cmp : WrittenRow → WrittenRow → Ordering
 written_cmp a b = ordering_then (row_cmp a.row b.row) (txn_cmp a.txn b.txn)
 
--- The rows that some records write of the writer's transactions.
-abbrev pub with_row : FinSet written_cmp → ℕ → RowKey → Txn → FinSet written_cmp
-with_row rows writer row t = cond (nat_eq t.writer.0 writer) (sets.insert rows (record { row = row; txn = t })) rows
+-- Written rows: a map from each to nothing, whose keys are listed in their order.
+abbrev pub WrittenRows : Type 0
+WrittenRows = FinMap written_cmp (Unit {0})
 
-abbrev pub with_rows : FinSet written_cmp → ℕ → List Record → FinSet written_cmp
+-- The rows that some records write of the writer's transactions.
+abbrev pub with_row : WrittenRows → ℕ → RowKey → Txn → WrittenRows
+with_row rows writer row t = cond (nat_eq t.writer.0 writer) (fin.insert rows (record { row = row; txn = t }) tt) rows
+
+abbrev pub with_rows : WrittenRows → ℕ → List Record → WrittenRows
 with_rows rows writer [] = rows
 with_rows rows writer (RowSet page prev table row ∷ rs) = with_rows (with_row rows writer (record { table = table; key = row.key }) row.txn) writer rs
 with_rows rows writer (r ∷ rs) = with_rows rows writer rs
 
-abbrev pub written_by : FinSet written_cmp → ℕ → List Group → FinSet written_cmp
+abbrev pub written_by : WrittenRows → ℕ → List Group → WrittenRows
 written_by rows writer [] = rows
 written_by rows writer (g ∷ gs) = written_by (with_rows rows writer g.records) writer gs
 
@@ -91,7 +94,7 @@ have_end groups t = list_any (λ g. list_any (λ e. same_txn e.0 t) (ends_in g.r
 -- The rows that are to be undone: those that the groups write of the writer's transactions that have no end in them,
 -- ascending by table, key and transaction.
 abbrev pub to_undo : ℕ → List Group → List WrittenRow
-to_undo writer groups = sets.items (sets.retain (written_by sets.empty writer groups) (λ r. not (have_end groups r.txn)))
+to_undo writer groups = fin.keys (fin.retain_keys (written_by fin.empty writer groups) (λ r. not (have_end groups r.txn)))
 
 -- ---- the parts of a takeover
 

@@ -10,7 +10,7 @@ use Rattle.tm_data.specs.declared.log.Group.{Group}
 use Rattle.tm_data.specs.declared.transaction.Page.{Page}
 use Rattle.tm_data.specs.declared.transaction.Writer.{Writer}
 use Rattle.tm_data.specs.declared.vector.VectorEntry.{VectorEntry}
-use Rattle.tm_data.specs.Orders.{txn_cmp, writer_cmp}
+use Rattle.tm_data.specs.Orders.{row_cmp, txn_cmp, writer_cmp}
 use Rattle.tm_base.specs.declared.message.Message.{Message}
 use Rattle.tm_base.specs.declared.message.Node.{Node}
 use Rattle.tm_base.specs.declared.message.Node.TheVariants.{Master, PageStore, LockManager}
@@ -28,6 +28,10 @@ use Rattle.master_model.specs.declared.recovery.Stage.{Stage}
 use Rattle.master_model.specs.declared.session.Own.{Own}
 
 -- ---- what a writer works on
+
+-- Rows of tables: a map from each to nothing, whose keys are listed by table and key.
+abbrev pub Rows : Type 0
+Rows = FinMap row_cmp (Unit {0})
 
 -- A writer, which is one life of a master, from its number on.
 pub record Work : Type 0 where

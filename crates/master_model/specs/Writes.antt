@@ -2,7 +2,7 @@
 use Rattle.std.specs.Prelude.{ℕ, ◌+◌, Bool, true, false, cond, nat_eq, nat_le, List, [], ◌∷◌, length, take, drop, reverse, Result, Ok, Err}
 use Rattle.std.specs.Option.{option_eq}
 use Rattle.std.specs.Cmp.Lexicographic.{pointwise}
-use Rattle.std.specs.FinSet as sets
+use Rattle.std.specs.FinMap as fin
 use Rattle.std.specs.declared.option.Option.{Option}
 use Rattle.std.specs.declared.option.Option.TheVariants.{None, Some}
 use Rattle.tm_data.specs.declared.image.Body.{Body}
@@ -122,7 +122,7 @@ tags_after tags leaf path fresh = parted_by tags leaf.page fresh (nat_eq (length
 -- ---- the groups of the put
 
 abbrev pub with_written : Own → ℕ → List ℕ → Own
-with_written own table key = record own { written = sets.insert own.written (record { table = table; key = key }) }
+with_written own table key = record own { written = fin.insert own.written (record { table = table; key = key }) tt }
 
 -- A put in a session: what is written, and where.
 pub record Put : Type 0 where

@@ -13,4 +13,4 @@ mod session;
 
 pub use left::Left;
 pub use recovery::Stage;
-pub use session::{Own, Progress, RowKeyList};
+pub use session::{Own, Progress};

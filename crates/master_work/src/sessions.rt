@@ -3,7 +3,6 @@ ghost use Rattle.std.specs.Prelude.{◌≡◌, ◌<◌, ◌+◌, ◌^◌, Some, 
 ghost use Rattle.std.specs.List.{list_any};
 ghost use Rattle.std.specs.Option.{option_copied};
 ghost use Rattle.std.specs.FinMap as fin;
-ghost use Rattle.std.specs.FinSet as sets;
 ghost use Rattle.master_model.specs.Fates.{is_over, is_open_in};
 ghost use Rattle.master_model.specs.declared.session.Own.{Own};
 ghost use Rattle.master_model.specs.declared.session.Progress.TheVariants.{Active};
@@ -43,7 +42,7 @@ pub fn is_over(durable: u32, progress: &Progress) -> bool
 {
     match progress {
         Progress::Active => false,
-        Progress::Undoing { .. } => false,
+        Progress::Undoing => false,
         Progress::Ended { seq, .. } => *seq <= durable,
     }
 }
@@ -90,7 +89,7 @@ impl Sessions {
         requires free { fin.get self.old.owns session ≡ None }
         requires fits { self.old.begun + 1 < 2 ^ 32 }
         ensures number { IfOk result (λ number. number ≡ self.old.begun + 1) }
-        ensures ok { OnOk result (self.new ≡ record { begun = self.old.begun + 1; owns = fin.insert self.old.owns session (record { number = self.old.begun + 1; written = sets.empty; progress = Active }) }) }
+        ensures ok { OnOk result (self.new ≡ record { begun = self.old.begun + 1; owns = fin.insert self.old.owns session (record { number = self.old.begun + 1; written = fin.empty; progress = Active }) }) }
         ensures err { OnErr result (self.new ≡ self.old) }
     {
         self.owns.make_room(1)?;
@@ -131,7 +130,7 @@ impl Sessions {
     pub fn add_written(&mut self, session: u16, row: RowKey) -> Mem<()>
         requires { IsSome (fin.get self.old.owns session) }
         ensures ok { (own : Own) → fin.get self.old.owns session ≡ Some own
-            → OnOk result (self.new ≡ record self.old { owns = fin.insert self.old.owns session (record own { written = sets.insert own.written row }) }) }
+            → OnOk result (self.new ≡ record self.old { owns = fin.insert self.old.owns session (record own { written = fin.insert own.written row tt }) }) }
         ensures err { OnErr result (self.new ≡ self.old) }
     {
         let session = u32::from(session);

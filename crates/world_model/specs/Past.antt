@@ -1,6 +1,7 @@
 -- What a step adds to what is kept of the run.
 use Rattle.std.specs.Prelude.{ℕ, Bool, true, false, cond, not, ◌&&◌, is_some, nat_eq, nat_le, nat_lt, List, [], ◌∷◌, ◌++◌, filter_map, map}
 use Rattle.std.specs.Ordering.{ordering_then}
+use Rattle.std.specs.FinMap.{FinMap}
 use Rattle.std.specs.FinMap as fin
 use Rattle.std.specs.FinSet as sets
 use Rattle.std.specs.declared.cmp.Ordering.{Ordering}
@@ -96,7 +97,7 @@ lived p old new = p
 -- A value that was told of a key which the transaction hasn't written was read.
 abbrev pub read_if : Past → Writer → Own → RowKey → Past
 read_if p writer own key =
-    cond (sets.contains own.written key) p
+    cond (fin.contains_key own.written key) p
     (with_events p writer (read_by writer (record { writer = writer; number = own.number }) key ∷ []))
 
 abbrev pub read_in : Past → Writer → Option Own → RowKey → Past
@@ -146,8 +147,13 @@ put_in writer most e other = None
 abbrev pub put_key : PutMark → PutKey
 put_key m = record { txn = m.txn; table = m.row.table; key = m.row.key }
 
+-- A map from each to nothing: its keys are listed in their order.
+abbrev pub marked : List PutMark → FinMap put_cmp (Unit {0})
+marked [] = fin.empty
+marked (m ∷ ms) = fin.insert (marked ms) m tt
+
 abbrev pub puts_upto : ℕ → ℕ → List Event → List PutKey
-puts_upto writer most events = map put_key (sets.items (sets.from_list {R = put_cmp} (filter_map (λ e. put_in writer most e e.kind) events)))
+puts_upto writer most events = map put_key (fin.keys (marked (filter_map (λ e. put_in writer most e e.kind) events)))
 
 -- A close that is accepted: the machine closes the writer, the events past the length are struck, and the writer's number
 -- is the length.
