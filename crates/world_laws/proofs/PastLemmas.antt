@@ -105,7 +105,7 @@ pub record SameHard (p q : Past) : Type 0 where
   pub ended : q.ended ≡ p.ended
 
 read_if_same : (p : Past) (writer : Writer) (own : Own) (key : RowKey) → SameHard p (read_if p writer own key)
-read_if_same p writer own key = by (sets.contains own.written key)
+read_if_same p writer own key = by (fin.contains_key own.written key)
   where
     by : (c : Bool) → SameHard p (cond c p (with_events p writer (read_by writer (record { writer = writer; number = own.number }) key ∷ [])))
     by true = record { hard = refl; ended = refl }
