@@ -12,7 +12,6 @@ use Rattle.std.specs.BTreeMap.{is_at}
 use Rattle.std.specs.BTreeSet.{insert_key}
 use Rattle.std.specs.Set.{remove_key}
 use Rattle.std.specs.FinMap as fin
-use Rattle.std.specs.FinSet as sets
 use Rattle.tm_data.specs.declared.transaction.Txn.{Txn}
 use Rattle.tm_data.specs.declared.row_map.RowKey.{RowKey}
 use Rattle.tm_data.specs.Orders.{row_cmp, row_cmp-total, row_cmp-exact, txn_cmp, txn_cmp-total, txn_cmp-exact}
@@ -144,7 +143,7 @@ pub wrote_none_yet : (fresh : Open) → fresh ≡ untouched → (k : RowKey) →
 wrote_none_yet fresh is k = ap (λ o. wrote o k) is ∙ ap is_some (fin.get-empty row_cmp k)
 
 pub read_none_yet : (fresh : Open) → fresh ≡ untouched → (k : RowKey) → read fresh k ≡ false
-read_none_yet fresh is k = ap (λ o. read o k) is ∙ sets.contains-empty row_cmp k
+read_none_yet fresh is k = ap (λ o. read o k) is ∙ ap is_some (fin.get-empty row_cmp k)
 
 -- a write, or none
 pub write_grows : {E : Type 0} (had w : Open) (key : RowKey) (value : Option (List ℕ)) (r : Result (Unit {0}) E)
@@ -157,11 +156,12 @@ write_grows had w key value (Err e) ok err k other h = sym (ap (λ m. is_some (f
 
 -- a read, or none
 pub read_grows : {E : Type 0} (had w : Open) (key : RowKey) (r : Result (Unit {0}) E)
-    → OnOk r (w.reads ≡ sets.insert had.reads key) → OnErr r (w.reads ≡ had.reads)
+    → OnOk r (w.reads ≡ fin.insert had.reads key tt) → OnErr r (w.reads ≡ had.reads)
     → (k : RowKey) → eq_by_cmp row_cmp k key ≡ false → read w k ≡ true → read had k ≡ true
 read_grows had w key (Ok x) ok err k other h =
-    sym (ap (λ m. sets.contains m k) ok ∙ sets.contains-insert row_cmp-total had.reads key k ∙ ap (λ b. b || sets.contains had.reads k) other) ∙ h
-read_grows had w key (Err e) ok err k other h = sym (ap (λ m. sets.contains m k) err) ∙ h
+    sym (ap (λ m. fin.contains_key m k) ok ∙ ap is_some (fin.get-insert row_cmp-total had.reads key tt k)
+    ∙ ap (λ b. is_some (cond b (Some tt) (fin.get had.reads k))) other) ∙ h
+read_grows had w key (Err e) ok err k other h = sym (ap (λ m. fin.contains_key m k) err) ∙ h
 
 -- ---- a transaction goes
 

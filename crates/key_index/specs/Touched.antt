@@ -14,10 +14,10 @@ use Rattle.key_index.specs.declared.opened.Open.{Open}
 
 -- Nothing is read or written.
 abbrev pub untouched : Open
-untouched = record { reads = sets.empty; writes = fin.empty }
+untouched = record { reads = fin.empty; writes = fin.empty }
 
 abbrev pub coded_open : Coded Open
-coded_open = code_by (sets.FinSet row_cmp × fin.FinMap row_cmp (Option (List ℕ))) (coded× (sets.code coded_row) (fin.code coded_row (coded_option (coded_list coded_ℕ))))
+coded_open = code_by (fin.FinMap row_cmp (Unit {0}) × fin.FinMap row_cmp (Option (List ℕ))) (coded× (sets.code coded_row) (fin.code coded_row (coded_option (coded_list coded_ℕ))))
     (λ o. (o.reads, o.writes)) (λ p. record { reads = p.0; writes = p.1 }) (λ _. refl)
 
 abbrev pub same_writer : Writer → Writer → Bool
@@ -31,7 +31,7 @@ abbrev pub wrote : Open → RowKey → Bool
 wrote touched key = is_some (fin.get touched.writes key)
 
 abbrev pub read : Open → RowKey → Bool
-read touched key = sets.contains touched.reads key
+read touched key = fin.contains_key touched.reads key
 
 -- Whether one of the open transactions, other than T, has written the key, or has read it.
 abbrev pub wrote_by_other : List (Txn × Open) → Txn → RowKey → Bool
@@ -43,7 +43,7 @@ read_by_other opened t key = list_any (λ e. not (same_txn e.0 t) && read e.1 ke
 -- the open transactions, where T has read one more key, or written one, if it is open
 abbrev pub reads_in : fin.FinMap txn_cmp Open → Txn → RowKey → Option Open → fin.FinMap txn_cmp Open
 reads_in opened t key None = opened
-reads_in opened t key (Some touched) = fin.insert opened t (record touched { reads = sets.insert touched.reads key })
+reads_in opened t key (Some touched) = fin.insert opened t (record touched { reads = fin.insert touched.reads key tt })
 
 abbrev pub writes_in : fin.FinMap txn_cmp Open → Txn → RowKey → Option (List ℕ) → Option Open → fin.FinMap txn_cmp Open
 writes_in opened t key value None = opened

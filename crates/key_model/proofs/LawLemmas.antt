@@ -143,12 +143,12 @@ module _ (m : State) where
 
   read_false : (t : Txn) (key : RowKey) → NoOtherRead m t key → other_read m t key ≡ false
   read_false t key h =
-      none_passes txn_cmp-total txn_cmp-exact m.opened (λ e. not (same_txn e.0 t) && sets.contains e.1.reads key)
+      none_passes txn_cmp-total txn_cmp-exact m.opened (λ e. not (same_txn e.0 t) && fin.contains_key e.1.reads key)
       (λ u o found. apart u t _ (λ other. h u o other found))
 
   false_read : (t : Txn) (key : RowKey) → other_read m t key ≡ false → NoOtherRead m t key
   false_read t key h u o other found =
-      apart_fails u t _ other (each_fails txn_cmp-total txn_cmp-exact m.opened (λ e. not (same_txn e.0 t) && sets.contains e.1.reads key) h u o found)
+      apart_fails u t _ other (each_fails txn_cmp-total txn_cmp-exact m.opened (λ e. not (same_txn e.0 t) && fin.contains_key e.1.reads key) h u o found)
 
   dying_false : (key : RowKey) → NoneDying m key → has_dying m key ≡ false
   dying_false key h =

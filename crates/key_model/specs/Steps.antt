@@ -55,7 +55,7 @@ NoOtherWrote m t key = (u : Txn) (touched : Open) → u ≢ t → fin.get m.open
 
 -- No open transaction other than T has read the key.
 abbrev pub NoOtherRead : State → Txn → RowKey → Type 0
-NoOtherRead m t key = (u : Txn) (touched : Open) → u ≢ t → fin.get m.opened u ≡ Some touched → sets.contains touched.reads key ≡ false
+NoOtherRead m t key = (u : Txn) (touched : Open) → u ≢ t → fin.get m.opened u ≡ Some touched → fin.contains_key touched.reads key ≡ false
 
 -- No transaction of a closed writer has the key locked.
 abbrev pub NoneDying : State → RowKey → Type 0
@@ -85,7 +85,7 @@ with_begun m session t = record m {
 
 -- Unless T wrote the key, it joins T's read keys.
 abbrev pub with_read : State → OpenTxn → RowKey → Option (Option (List ℕ)) → State
-with_read m mine key None = record m { opened = fin.insert m.opened mine.txn (record mine.touched { reads = sets.insert mine.touched.reads key }) }
+with_read m mine key None = record m { opened = fin.insert m.opened mine.txn (record mine.touched { reads = fin.insert mine.touched.reads key tt }) }
 with_read m mine key (Some written) = m
 
 -- T's written value of the key is new, or none where it deletes.

@@ -10,12 +10,10 @@ use Rattle.tm_data.specs.declared.log.Record.{Record}
 use Rattle.tm_data.specs.declared.log.Record.TheVariants.{RowSet, Cut, Format, NodeAdd, End, Beat}
 use Rattle.page_model.specs.Effects.{page_of}
 use Rattle.master_model.specs.Acks.{ends_in}
-use Rattle.master_model.specs.Recovery.{WrittenRow, in_turn, is_next, page_stamp, with_groups, with_stamp}
+use Rattle.master_model.specs.Recovery.{WrittenRow, in_turn, is_next, page_stamp, with_groups, with_stamp, WrittenRows, with_row, written_by}
 use Rattle.master_model.specs.Recovery as model
 use Rattle.master_recovery.specs.declared.batch.Batch.{Batch}
 use Rattle.master_recovery.specs.Places.{itself, nothing, page_key, stamp_value, with_items}
-use Rattle.master_recovery.specs.Rows.{WrittenRows, with_row, written_by}
-use Rattle.master_recovery.specs.Rows as rows
 use Rattle.master_recovery.specs.Seen.{EndedTxns, Seen, ended_by, read, read_on, with_ends, with_read}
 use Rattle.master_recovery.specs.Gathered.{gathered, row_named, with_page, with_record, with_records, with_row_if}
 
@@ -65,11 +63,11 @@ row_put : (m : WrittenRows) (b : Batch) (w : WrittenRow) (own : Bool) → put_ro
 row_put m b w true = items_push itself nothing m b.rows w
 row_put m b w false = refl
 
-records_rows : (m : WrittenRows) (writer stamp : ℕ) (b : Batch) (rs : List Record) → put_rows m (with_records writer stamp b rs) ≡ rows.with_rows (put_rows m b) writer rs
+records_rows : (m : WrittenRows) (writer stamp : ℕ) (b : Batch) (rs : List Record) → put_rows m (with_records writer stamp b rs) ≡ model.with_rows (put_rows m b) writer rs
 records_rows m writer stamp b [] = refl
 records_rows m writer stamp b (RowSet page prev table r ∷ rs) =
     records_rows m writer stamp (with_record writer stamp b (RowSet page prev table r)) rs
-    ∙ ap (λ n. rows.with_rows n writer rs) (row_put m (with_page b page.0 stamp) (row_named table r) (nat_eq r.txn.writer.0 writer))
+    ∙ ap (λ n. model.with_rows n writer rs) (row_put m (with_page b page.0 stamp) (row_named table r) (nat_eq r.txn.writer.0 writer))
 records_rows m writer stamp b (Cut page prev at ∷ rs) = records_rows m writer stamp (with_record writer stamp b (Cut page prev at)) rs
 records_rows m writer stamp b (Format page prev body ∷ rs) = records_rows m writer stamp (with_record writer stamp b (Format page prev body)) rs
 records_rows m writer stamp b (NodeAdd page prev key child ∷ rs) = records_rows m writer stamp (with_record writer stamp b (NodeAdd page prev key child)) rs

@@ -12,15 +12,14 @@ use Rattle.std.specs.Map.{keys_of}
 use Rattle.std.specs.FinMap as fin
 use Rattle.std.specs.FinMap.{FinMap, is_sorted}
 use Rattle.std.specs.FinMap.Entries.{below_all}
-use Rattle.std.specs.FinSet as sets
 use Rattle.tm_data.specs.declared.log.Group.{Group}
 use Rattle.tm_data.specs.declared.log.Record.{Record}
 use Rattle.tm_data.specs.declared.log.Record.TheVariants.{RowSet, Cut, Format, NodeAdd, End, Beat}
 use Rattle.page_model.specs.Effects.{page_of}
-use Rattle.master_model.specs.Recovery.{WrittenRow, have_end, to_undo, with_groups, with_stamp, written_cmp}
+use Rattle.master_model.specs.Recovery.{WrittenRow, have_end, to_undo, with_groups, with_stamp, written_cmp, WrittenRows, with_row, with_rows, written_by}
 use Rattle.master_model.specs.Recovery as model
 use Rattle.master_recovery.specs.Gathered.{row_named}
-use Rattle.master_recovery.specs.Rows.{WrittenRows, undo_rows, with_row, with_rows, written_by, written_cmp-exact, written_cmp-total}
+use Rattle.master_recovery.specs.Rows.{written_cmp-exact, written_cmp-total}
 use Rattle.master_recovery.specs.ReadRows.{changes, is_among, is_page, is_write, last_stamp, later, stamp_if, writes}
 use Rattle.master_recovery.proofs.PlaceLemmas.{equal, first_of_both, get-kept, second_of_both}
 
@@ -98,7 +97,7 @@ joins true n b rest = refl
 joins false true b rest = refl
 joins false false b rest = refl
 
--- which rows one more record has, in the definitions' set and in the map
+-- which rows one more record has
 module _ {S : Type 0} (has : S → WrittenRow → Bool) (put : S → WrittenRow → S) (w : WrittenRow) (puts : (s : S) (x : WrittenRow) → has (put s x) w ≡ (eq_by_cmp written_cmp w x || has s w)) where
   row_has : (s : S) (writer : ℕ) (x : WrittenRow)
       → has (cond (nat_eq x.txn.writer.0 writer) (put s x) s) w ≡ (has s w || (nat_eq w.txn.writer.0 writer && eq_by_cmp written_cmp w x))
@@ -144,8 +143,8 @@ groups_has m writer w (g ∷ gs) =
 abbrev wanted : ℕ → List Group → WrittenRow → Bool
 wanted writer gs w = nat_eq w.txn.writer.0 writer && writes gs w && not (have_end gs w.txn)
 
-pub undo_rows_are : (writer : ℕ) (gs : List Group) (w : WrittenRow) → is_among (undo_rows writer gs) w ≡ wanted writer gs w
-undo_rows_are writer gs w =
+pub to_undo_is : (writer : ℕ) (gs : List Group) (w : WrittenRow) → is_among (to_undo writer gs) w ≡ wanted writer gs w
+to_undo_is writer gs w =
     let all = written_by fin.empty writer gs in
     let lasts : WrittenRow → Bool = λ r. not (have_end gs r.txn) in
     sym (fin.contains_key-keys (fin.retain_keys all lasts) w) ∙ ap is_some (get-kept written_cmp-total written_cmp-exact all lasts w) ∙ by (lasts w) (fin.get all w)
@@ -156,37 +155,6 @@ undo_rows_are writer gs w =
     by true (Some u) = refl
     by false None = refl
     by false (Some u) = refl
-
--- ---- the same of the definitions' list
-
-model_records_has : (s : sets.FinSet written_cmp) (writer : ℕ) (w : WrittenRow) (rs : List Record)
-    → sets.contains (model.with_rows s writer rs) w ≡ (sets.contains s w || (nat_eq w.txn.writer.0 writer && list_any (is_write w) rs))
-model_records_has s writer w [] = or_false _ ∙ sym (ap (λ z. sets.contains s w || z) (and_false (nat_eq w.txn.writer.0 writer)))
-model_records_has s writer w (RowSet page prev table r ∷ rs) =
-    let x = row_named table r in
-    model_records_has (model.with_row s writer x.row x.txn) writer w rs
-    ∙ ap (λ z. z || (nat_eq w.txn.writer.0 writer && list_any (is_write w) rs)) (row_has sets.contains sets.insert w (λ s x. sets.contains-insert written_cmp-total s x w) s writer x)
-    ∙ joins (sets.contains s w) (nat_eq w.txn.writer.0 writer) (eq_by_cmp written_cmp w x) (list_any (is_write w) rs)
-model_records_has s writer w (Cut page prev at ∷ rs) = model_records_has s writer w rs
-model_records_has s writer w (Format page prev body ∷ rs) = model_records_has s writer w rs
-model_records_has s writer w (NodeAdd page prev key child ∷ rs) = model_records_has s writer w rs
-model_records_has s writer w (End t committed ∷ rs) = model_records_has s writer w rs
-model_records_has s writer w (Beat ∷ rs) = model_records_has s writer w rs
-
-model_groups_has : (s : sets.FinSet written_cmp) (writer : ℕ) (w : WrittenRow) (gs : List Group)
-    → sets.contains (model.written_by s writer gs) w ≡ (sets.contains s w || (nat_eq w.txn.writer.0 writer && writes gs w))
-model_groups_has s writer w [] = or_false _ ∙ sym (ap (λ z. sets.contains s w || z) (and_false (nat_eq w.txn.writer.0 writer)))
-model_groups_has s writer w (g ∷ gs) =
-    model_groups_has (model.with_rows s writer g.records) writer w gs
-    ∙ ap (λ z. z || (nat_eq w.txn.writer.0 writer && writes gs w)) (model_records_has s writer w g.records)
-    ∙ joins (sets.contains s w) (nat_eq w.txn.writer.0 writer) (list_any (is_write w) g.records) (writes gs w)
-
-pub to_undo_is : (writer : ℕ) (gs : List Group) (w : WrittenRow) → is_among (to_undo writer gs) w ≡ wanted writer gs w
-to_undo_is writer gs w =
-    let all = model.written_by sets.empty writer gs in
-    let lasts : WrittenRow → Bool = λ r. not (have_end gs r.txn) in
-    sym (sets.contains-items (sets.retain all lasts) w) ∙ sets.contains-retain all lasts w (λ x tied. ap lasts (sym (written_cmp-exact w x tied)))
-    ∙ ap (λ z. z && lasts w) (model_groups_has sets.empty writer w gs ∙ ap (λ z. z || (nat_eq w.txn.writer.0 writer && writes gs w)) (sets.contains-empty written_cmp w))
 
 pub ended_out : (own wrote ended : Bool) → ended ≡ true → (own && wrote && not ended) ≡ false
 ended_out true true ended e = ap not e
@@ -215,8 +183,8 @@ module _ {K X : Type 0} (R : K → K → Ordering) where
   keys_ascend [] s = tt
   keys_ascend (e ∷ es) s = (below_each e.0 es (first_of_both _ _ s), keys_ascend es (second_of_both _ _ s))
 
-pub undo_rows_ascend : (writer : ℕ) (gs : List Group) → IsStrictlySortedBy written_cmp (undo_rows writer gs)
-undo_rows_ascend writer gs = keys_ascend written_cmp _ (fin.entries_sorted (fin.retain_keys (written_by fin.empty writer gs) (λ r. not (have_end gs r.txn))))
+pub to_undo_ascends : (writer : ℕ) (gs : List Group) → IsStrictlySortedBy written_cmp (to_undo writer gs)
+to_undo_ascends writer gs = keys_ascend written_cmp _ (fin.entries_sorted (fin.retain_keys (written_by fin.empty writer gs) (λ r. not (have_end gs r.txn))))
 
 pub pages_ascend : (gs : List Group) → IsStrictlySortedBy nat_cmp (fin.keys (with_groups fin.empty gs))
 pages_ascend gs = keys_ascend nat_cmp _ (fin.entries_sorted (with_groups fin.empty gs))

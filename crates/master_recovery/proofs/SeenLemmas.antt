@@ -13,10 +13,8 @@ use Rattle.master_model.specs.declared.recovery.Stage.{Stage}
 use Rattle.master_model.specs.declared.recovery.Stage.TheVariants.{Seal, Close, Scan, Take, Undo, Told, Over}
 use Rattle.master_model.specs.State.{Life, Recovery}
 use Rattle.master_model.specs.Acks.{ends_in}
-use Rattle.master_model.specs.Recovery.{have_end, in_turn, is_last, on_closed_in, on_groups_in, on_recovered, on_sealed_in, on_taken_in, WrittenRow, pages_of, reads_groups, scans, takes_on, to_undo, with_groups, writer_named}
+use Rattle.master_model.specs.Recovery.{have_end, in_turn, is_last, on_closed_in, on_groups_in, on_recovered, on_sealed_in, on_taken_in, WrittenRow, pages_of, reads_groups, scans, takes_on, to_undo, with_groups, writer_named, WrittenRows, rows_left, written_by}
 use Rattle.master_model.specs.Recovery as model
-use Rattle.master_recovery.specs.Rows.{WrittenRows, rows_left, undo_rows, written_by}
-use Rattle.master_recovery.specs.Rows as rows
 use Rattle.master_recovery.proofs.PlaceLemmas.{equal, is_itself}
 use Rattle.master_recovery.specs.Seen.{EndedTxns, IsSound, Seen, Shows, StageFits, at, closed, closed_if, closed_in, ended_by, groups_in, left_at, listed, open_rows, over, read, read_on, scanned, sealed, sealed_in, seen, taken, taken_if, taken_in, taken_on, told, undone, with_ends, with_read, written_at}
 
@@ -28,7 +26,7 @@ pages_more m (g ∷ gs) hs = pages_more (model.with_records m g.stamp.0 g.record
 
 rows_more : (m : WrittenRows) (writer : ℕ) (gs hs : List Group) → written_by m writer (gs ++ hs) ≡ written_by (written_by m writer gs) writer hs
 rows_more m writer [] hs = refl
-rows_more m writer (g ∷ gs) hs = rows_more (rows.with_rows m writer g.records) writer gs hs
+rows_more m writer (g ∷ gs) hs = rows_more (model.with_rows m writer g.records) writer gs hs
 
 ends_more : (m : EndedTxns) (gs hs : List Group) → ended_by m (gs ++ hs) ≡ ended_by (ended_by m gs) hs
 ends_more m [] hs = refl
@@ -152,7 +150,7 @@ left_most xs left e = omega (arith, e, drop_most (length xs - left) xs)
 
 pub undone_shows : (r : Recovery) (left : ℕ) → r.stage ≡ Undo left → 0 < left → IsSound (seen r) → undone (seen r) left ≡ seen (record r { stage = Undo (left - 1) })
 undone_shows r left e some sound =
-    let rows = undo_rows r.writer r.scanned in
+    let rows = to_undo r.writer r.scanned in
     let fits : left ≡ length (drop (length rows - left) rows) = subst (λ s. StageFits (seen_at r s) s) e sound in
     let most = left_most rows left fits in
     λ i. record {
@@ -234,26 +232,25 @@ ended_is gs t = groups_end fin.empty gs t ∙ ap (λ o. is_some o || have_end gs
 
 -- ---- a part is taken over
 
-open_rows_are : (r : Recovery) (part : ℕ) (rest : Bool) → r.stage ≡ Take part rest → open_rows (seen r) ≡ undo_rows r.writer r.scanned
+open_rows_are : (r : Recovery) (part : ℕ) (rest : Bool) → r.stage ≡ Take part rest → open_rows (seen r) ≡ to_undo r.writer r.scanned
 open_rows_are r part rest e = λ i. fin.keys (fin.retain_keys (ap (λ s. written_at s (written_by fin.empty r.writer r.scanned)) e i) (λ w. not (ended_is r.scanned w.txn i)))
 
 all_left : (rows : List WrittenRow) (n : ℕ) → n ≡ length rows → drop (length rows - n) rows ≡ rows
 all_left rows n e = drop_none (length rows - n) rows (omega (arith, e))
 
-pub taken_shows : (l : Life) (r : Recovery) (part : ℕ) → l.recovery ≡ Some r → to_undo r.writer r.scanned ≡ undo_rows r.writer r.scanned
-    → Shows (taken (seen r) part) (on_taken_in l r part r.stage).0.recovery
-taken_shows l r told is same = by r.stage refl
+pub taken_shows : (l : Life) (r : Recovery) (part : ℕ) → l.recovery ≡ Some r → Shows (taken (seen r) part) (on_taken_in l r part r.stage).0.recovery
+taken_shows l r told is = by r.stage refl
   where
     goes : (part : ℕ) (last : Bool) → r.stage ≡ Take part last → (rest : Bool) → Shows (taken_on (seen r) part rest) (takes_on l r part rest).0.recovery
     goes part last e true =
         let rows = open_rows_are r part last e in
         λ i. record {
           writer = r.writer;
-          stage = Undo (ap length (rows ∙ sym same) i);
+          stage = Undo (ap length rows i);
           pages = with_groups fin.empty r.scanned;
           written = fin.empty;
           ended = ended_by fin.empty r.scanned;
-          undo = (rows ∙ sym (all_left (undo_rows r.writer r.scanned) (length (to_undo r.writer r.scanned)) (ap length same))) i;
+          undo = (rows ∙ sym (all_left (to_undo r.writer r.scanned) (length (to_undo r.writer r.scanned)) refl)) i;
         }
     goes part last e false = ap (λ s. at (seen_at r s) (Take (part + 1) (is_last (pages_of r.scanned) (part + 1)))) e
 
@@ -270,5 +267,5 @@ taken_shows l r told is same = by r.stage refl
     by Told e = stays l r is
     by Over e = stays l r is
 
-pub left_shows : (r : Recovery) (left : ℕ) → r.stage ≡ Undo left → to_undo r.writer r.scanned ≡ undo_rows r.writer r.scanned → (seen r).undo ≡ model.rows_left r left
-left_shows r left e same = ap (left_at r) e ∙ ap (λ rows. drop (length rows - left) rows) (sym same)
+pub left_shows : (r : Recovery) (left : ℕ) → r.stage ≡ Undo left → (seen r).undo ≡ model.rows_left r left
+left_shows r left e = ap (left_at r) e

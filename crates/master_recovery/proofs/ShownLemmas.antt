@@ -8,11 +8,10 @@ use Rattle.std.specs.FinMap.{FinMap}
 use Rattle.tm_data.specs.declared.log.Group.{Group}
 use Rattle.tm_data.specs.Orders.{txn_cmp}
 use Rattle.master_model.specs.declared.recovery.Stage.TheVariants.{Seal, Scan, Take}
-use Rattle.master_model.specs.Recovery.{in_turn, is_last, with_groups, written_cmp}
+use Rattle.master_model.specs.Recovery.{in_turn, is_last, with_groups, written_cmp, written_by}
 use Rattle.master_recovery.specs.declared.batch.Batch.{Batch}
 use Rattle.master_recovery.specs.Gathered.{gathered}
 use Rattle.master_recovery.specs.Places.{itself, nothing, page_key, stamp_value, valued, with_items}
-use Rattle.master_recovery.specs.Rows.{written_by}
 use Rattle.master_recovery.specs.Seen.{Seen, ended_by, listed, read_on, scanned, shown, with_read}
 use Rattle.master_recovery.proofs.BatchLemmas.{groups_ends, groups_pages, groups_rows, reads_none, reads_some}
 use Rattle.master_recovery.proofs.PlaceLemmas.{valued-empty}

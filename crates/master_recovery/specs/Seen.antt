@@ -17,8 +17,8 @@ use Rattle.master_model.specs.declared.recovery.Stage.TheVariants.{Seal, Close, 
 use Rattle.master_model.specs.contracts.recovery.Stage as stage_type
 use Rattle.master_model.specs.State.{Recovery}
 use Rattle.master_model.specs.Acks.{ends_in}
-use Rattle.master_model.specs.Recovery.{WrittenRow, in_turn, is_last, page_stamp, with_groups, written_cmp}
-use Rattle.master_recovery.specs.Rows.{WrittenRows, coded_written, rows_left, written_by}
+use Rattle.master_model.specs.Recovery.{WrittenRow, in_turn, is_last, page_stamp, with_groups, written_cmp, WrittenRows, rows_left, written_by}
+use Rattle.master_recovery.specs.Rows.{coded_written}
 use Rattle.master_recovery.specs.Places.{valued}
 
 -- Transactions that have ended: a map from each to nothing.

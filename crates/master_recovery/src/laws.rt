@@ -9,7 +9,6 @@ ghost use Rattle.tm_data.specs.declared.log.Group.{Group};
 ghost use Rattle.master_model.specs.State.{Life, Recovery};
 ghost use Rattle.master_model.specs.declared.recovery.Stage.TheVariants.{Undo, Told};
 ghost use Rattle.master_model.specs.Recovery.{WrittenRow, have_end, on_closed_in, on_groups_in, on_recovered, on_sealed_in, on_taken_in, pages_of, rows_left, to_undo, with_groups, writer_named, written_cmp};
-ghost use Rattle.master_recovery.specs.Rows.{undo_rows};
 ghost use Rattle.master_recovery.specs.ReadRows.{is_among, last_stamp, writes};
 ghost use Rattle.master_recovery.specs.Seen.{IsSound, Shows, closed, listed, over, scanned, sealed, seen, taken, told, undone};
 
@@ -23,25 +22,22 @@ pub fn pages_have_their_last_stamps()
 /// The rows to undo are exactly those that a group writes in the name of a transaction of the writer whose end is in none of
 /// the groups.
 pub fn rows_to_undo_are_those_without_an_end()
-    ensures kept { (writer : ℕ) (groups : List Group) (w : WrittenRow) → is_among (undo_rows writer groups) w ≡ (nat_eq w.txn.writer.0 writer && writes groups w && not (have_end groups w.txn)) }
-    ensures defined { (writer : ℕ) (groups : List Group) (w : WrittenRow) → is_among (to_undo writer groups) w ≡ (nat_eq w.txn.writer.0 writer && writes groups w && not (have_end groups w.txn)) }
+    ensures { (writer : ℕ) (groups : List Group) (w : WrittenRow) → is_among (to_undo writer groups) w ≡ (nat_eq w.txn.writer.0 writer && writes groups w && not (have_end groups w.txn)) }
 {}
 
 /// No row of a transaction is undone whose end is among the groups.
 pub fn no_ended_transaction_is_undone()
-    ensures kept { (writer : ℕ) (groups : List Group) (w : WrittenRow) → have_end groups w.txn ≡ true → is_among (undo_rows writer groups) w ≡ false }
-    ensures defined { (writer : ℕ) (groups : List Group) (w : WrittenRow) → have_end groups w.txn ≡ true → is_among (to_undo writer groups) w ≡ false }
+    ensures { (writer : ℕ) (groups : List Group) (w : WrittenRow) → have_end groups w.txn ≡ true → is_among (to_undo writer groups) w ≡ false }
 {}
 
 /// Each row is undone that a group writes in the name of a transaction of the writer, where that has no end in them.
 pub fn every_open_row_is_undone()
-    ensures kept { (writer : ℕ) (groups : List Group) (w : WrittenRow) → nat_eq w.txn.writer.0 writer ≡ true → writes groups w ≡ true → have_end groups w.txn ≡ false → is_among (undo_rows writer groups) w ≡ true }
-    ensures defined { (writer : ℕ) (groups : List Group) (w : WrittenRow) → nat_eq w.txn.writer.0 writer ≡ true → writes groups w ≡ true → have_end groups w.txn ≡ false → is_among (to_undo writer groups) w ≡ true }
+    ensures { (writer : ℕ) (groups : List Group) (w : WrittenRow) → nat_eq w.txn.writer.0 writer ≡ true → writes groups w ≡ true → have_end groups w.txn ≡ false → is_among (to_undo writer groups) w ≡ true }
 {}
 
 /// The rows to undo ascend by table, then by key, then by transaction.
 pub fn rows_to_undo_ascend()
-    ensures { (writer : ℕ) (groups : List Group) → IsStrictlySortedBy written_cmp (undo_rows writer groups) }
+    ensures { (writer : ℕ) (groups : List Group) → IsStrictlySortedBy written_cmp (to_undo writer groups) }
 {}
 
 /// A log store that has sealed the log moves what is seen of a recovery as the definitions move the recovery.
@@ -59,11 +55,9 @@ pub fn read_groups_show()
     ensures { (l : Life) (r : Recovery) (groups : List Group) → l.recovery ≡ Some r → Shows (scanned (seen r) groups) (on_groups_in l r groups r.stage).0.recovery }
 {}
 
-/// So does a part that is taken over, where the definitions list the rows to undo in their order. They list the items of a
-/// finite set, of which it is known which they are but not in which order.
+/// So does a part that is taken over.
 pub fn a_taken_part_shows()
-    ensures { (l : Life) (r : Recovery) (part : ℕ) → l.recovery ≡ Some r → to_undo r.writer r.scanned ≡ undo_rows r.writer r.scanned
-        → Shows (taken (seen r) part) (on_taken_in l r part r.stage).0.recovery }
+    ensures { (l : Life) (r : Recovery) (part : ℕ) → l.recovery ≡ Some r → Shows (taken (seen r) part) (on_taken_in l r part r.stage).0.recovery }
 {}
 
 /// What is seen lists the pages as the definitions do, so each part of them is the definitions' part.
@@ -71,10 +65,9 @@ pub fn the_pages_show()
     ensures { (r : Recovery) → listed (seen r).pages ≡ pages_of r.scanned }
 {}
 
-/// So does a row that is undone, which leaves one row less: those that are left are the definitions', where these list the rows to
-/// undo in their order.
+/// So does a row that is undone, which leaves one row less: those that are left are the definitions'.
 pub fn an_undone_row_shows()
-    ensures rows { (r : Recovery) (left : ℕ) → r.stage ≡ Undo left → to_undo r.writer r.scanned ≡ undo_rows r.writer r.scanned → (seen r).undo ≡ rows_left r left }
+    ensures rows { (r : Recovery) (left : ℕ) → r.stage ≡ Undo left → (seen r).undo ≡ rows_left r left }
     ensures left { (r : Recovery) (left : ℕ) → r.stage ≡ Undo left → 0 < left → IsSound (seen r) → undone (seen r) left ≡ seen (record r { stage = Undo (left - 1) }) }
 {}
 

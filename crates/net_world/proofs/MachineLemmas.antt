@@ -99,9 +99,9 @@ module _ (m : machine.State) (alive : Alive m) where
     pub after_read : (key : RowKey) (w : Option (Option (List ℕ))) → (x : Open)
         × ((with_read m (record { txn = t; touched = touched }) key w).opened ≡ fin.insert fin.empty t x) × (x.writes ≡ touched.writes)
     after_read key None = (
-      record touched { reads = sets.insert touched.reads key },
-      ap (λ (f : fin.FinMap txn_cmp Open). fin.insert f t (record touched { reads = sets.insert touched.reads key })) opened
-          ∙ written_over txn_cmp-total txn_cmp-exact fin.empty t touched (record touched { reads = sets.insert touched.reads key }),
+      record touched { reads = fin.insert touched.reads key tt },
+      ap (λ (f : fin.FinMap txn_cmp Open). fin.insert f t (record touched { reads = fin.insert touched.reads key tt })) opened
+          ∙ written_over txn_cmp-total txn_cmp-exact fin.empty t touched (record touched { reads = fin.insert touched.reads key tt }),
       refl,
     )
     after_read key (Some w) = (touched, opened, refl)

@@ -1,11 +1,8 @@
 use Rattle.std.proofs.Common.{◌∙◌, nat_eq}
 use Rattle.master_model.specs.Recovery.{have_end}
 use Rattle.master_recovery.specs.ReadRows.{writes}
-use Rattle.master_recovery.proofs.LawLemmas.{ended_out, to_undo_is, undo_rows_are}
+use Rattle.master_recovery.proofs.LawLemmas.{ended_out, to_undo_is}
 use Rattle.master_recovery.proofs.laws.no_ended_transaction_is_undone.Goals as goal
 
-pub returns-clause-kept : goal.returns-clause-kept
-returns-clause-kept c = λ writer groups w ended. undo_rows_are writer groups w ∙ ended_out (nat_eq w.txn.writer.0 writer) (writes groups w) (have_end groups w.txn) ended
-
-pub returns-clause-defined : goal.returns-clause-defined
-returns-clause-defined c = λ writer groups w ended. to_undo_is writer groups w ∙ ended_out (nat_eq w.txn.writer.0 writer) (writes groups w) (have_end groups w.txn) ended
+pub returns : goal.returns
+returns c = λ writer groups w ended. to_undo_is writer groups w ∙ ended_out (nat_eq w.txn.writer.0 writer) (writes groups w) (have_end groups w.txn) ended

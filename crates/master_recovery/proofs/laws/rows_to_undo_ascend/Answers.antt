@@ -1,5 +1,5 @@
-use Rattle.master_recovery.proofs.LawLemmas.{undo_rows_ascend}
+use Rattle.master_recovery.proofs.LawLemmas.{to_undo_ascends}
 use Rattle.master_recovery.proofs.laws.rows_to_undo_ascend.Goals as goal
 
 pub returns : goal.returns
-returns c = undo_rows_ascend
+returns c = to_undo_ascends

@@ -1,5 +1,5 @@
 use Rattle.std.proofs.Common.{refl, ap, ◌≡◌, ◌∙◌}
-use Rattle.std.specs.FinSet as sets
+use Rattle.std.specs.FinMap as fin
 use Rattle.master_model.specs.declared.session.Own.{Own}
 use Rattle.master_work.proofs.SessionLemmas.{put_back_changed, put_back_indexed, put_back_same, put_there, then_err, then_ok}
 use Rattle.master_work.proofs.sessions.Sessions.add_written.Goals as goal
@@ -18,8 +18,8 @@ returns-clause-ok c own at =
     let s = c.self.inside in
     then_ok c.insert-added.result
     (λ added. put_back_changed c.args.self.now s.begun s.owns.map c.replace.new.self.map c.replace-2.new.self.map c.from-session.result c.args.session c.nothing.result c.in-Some.own own (record c.in-Some.own { written = c.insert-added.new.self })
-    (record own { written = sets.insert own.written c.args.row }) c.self.view_is c.from-session.ensures c.in-Some.ensures.was at c.replace.ensures.set c.replace-2.ensures.set
-    (λ one. λ i. record (one i) { written = (added ∙ ap (λ (o : Own). sets.insert o.written c.args.row) one) i }))
+    (record own { written = fin.insert own.written c.args.row tt }) c.self.view_is c.from-session.ensures c.in-Some.ensures.was at c.replace.ensures.set c.replace-2.ensures.set
+    (λ one. λ i. record (one i) { written = (added ∙ ap (λ (o : Own). fin.insert o.written c.args.row tt) one) i }))
     c.insert-added.ensures.ok
 
 pub returns-clause-err : goal.returns-clause-err
