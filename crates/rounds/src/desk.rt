@@ -3,7 +3,7 @@ ghost use Rattle.std.specs.Prelude.{◌≡◌, IsTrue};
 ghost use Rattle.lease_desk.specs.Desk.{lease_of};
 
 use lease_desk::{Desk, Lease};
-use round_samples::Failure;
+use round_works::Failure;
 use std::alloc::Global;
 use tm_base::{Mem, Page, Stamp};
 

@@ -1,7 +1,7 @@
 //! The rows and the map at a cut, of a list of events.
 use event_cuts::{map_at, rows_at};
 use key_model::{Event, EventKind, EventList};
-use round_samples::Failure;
+use round_works::Failure;
 use std::alloc::Global;
 use tm_base::{Key, Stamp, Txn, Value, Vector, Writer};
 

@@ -3,7 +3,7 @@ ghost use Rattle.std.specs.Prelude.{◌≡◌, IfOk};
 ghost use Rattle.rounds.specs.Answers.{managed};
 
 use global_locks::Locks;
-use round_samples::Failure;
+use round_works::Failure;
 use std::alloc::Global;
 use tm_base::{Mem, Message, Node, Note, Page, Stamp, TagList, Txn, Vector, Writer};
 

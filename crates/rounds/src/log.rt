@@ -6,7 +6,7 @@ ghost use Rattle.rounds.specs.Answers.{all_acked, answers, moved, stored};
 
 use log_store::LogStore;
 use log_writer::LogWriter;
-use round_samples::Failure;
+use round_works::Failure;
 use std::alloc::Global;
 use tm_base::{Group, Mem, Message, Node, Note, Record, RecordList, Stamp, Vector, Writer};
 

@@ -1,6 +1,6 @@
 //! Steps of the plain machine, beside what a long run leaves.
 use key_model::{EndList, Machine, MachineStep, PutKey, PutList};
-use round_samples::Failure;
+use round_works::Failure;
 use std::alloc::Global;
 use tm_base::{ByteList, Command, Mem, Reply, Txn, Writer};
 

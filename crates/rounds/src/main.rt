@@ -6,19 +6,15 @@
 //! for other words, 1 where what was made can't be worked on, and 6 for want of memory.
 #![tactic(auto)]
 
-mod codec;
 mod desk;
 mod history;
 mod locks;
 mod log;
 mod machine;
-mod pages;
-mod shelf;
 mod tags;
-mod tree;
 mod work;
 
-use round_samples::Failure;
+use round_works::Failure;
 use std::alloc::Global;
 use std::env::{self, Env};
 use std::io;

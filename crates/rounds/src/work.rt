@@ -1,19 +1,13 @@
 //! The table of works.
-ghost use Rattle.std.specs.Prelude.{◌≡◌};
-ghost use Rattle.node_messages.specs.Spelling.{message_bytes, IsMessage};
-
-use crate::codec::{read_group, read_image, read_message, write_group, write_image, write_message};
 use crate::desk::{seek, turn};
 use crate::history::{maps, rows};
 use crate::locks::{ask, release, request};
 use crate::log::{acknowledge, append, fetch};
 use crate::machine::{Beside, turns};
-use crate::pages::{add, read};
 use crate::tags;
-use crate::tree::{Order, look, put};
-use round_samples::{Failure, Sample, bytes};
+use round_works::tree::{Order, look, put};
+use round_works::{Failure, Sample, codec, pages, replica};
 use std::alloc::Global;
-use tm_base::Message;
 
 /// What is done in each round.
 #[derive(Clone, Copy)]
@@ -62,6 +56,10 @@ pub enum Work {
     Steps(Beside, u32),
     /// A writer of the plain machine is closed and recovered, beside so many transactions.
     Close(Beside, u32),
+    /// A replica's order receives a group and applies it, after so many.
+    ApplyGroup(u32),
+    /// A replica reads a row at a point from a page that so many records make.
+    GetAt(u32),
 }
 
 fn number(word: &str) -> Option<u32> {
@@ -102,6 +100,8 @@ impl Work {
             "steps-locked" => Some(Work::Steps(Beside::Locked, number(what)?)),
             "close-open" => Some(Work::Close(Beside::Open, number(what)?)),
             "close-locked" => Some(Work::Close(Beside::Locked, number(what)?)),
+            "apply-group" => Some(Work::ApplyGroup(number(what)?)),
+            "get-at" => Some(Work::GetAt(number(what)?)),
             _ => None,
         }
     }
@@ -116,72 +116,11 @@ impl Work {
     }
 }
 
-fn images(alloc: Global, encode: bool, sample: Sample, rounds: u32) -> Result<u64, Failure> {
-    let bytes = bytes(alloc, sample)?;
-    let image = page_image::decode(alloc, &bytes)?;
-    if encode {
-        Ok(write_image(alloc, &image, rounds)?)
-    } else {
-        Ok(read_image(alloc, &image, &bytes, rounds)?)
-    }
-}
-
-fn groups(alloc: Global, encode: bool, sample: Sample, rounds: u32) -> Result<u64, Failure> {
-    let bytes = bytes(alloc, sample)?;
-    let group = log_record::decode(alloc, &bytes)?;
-    if encode {
-        Ok(write_group(alloc, &group, rounds)?)
-    } else {
-        Ok(read_group(alloc, &group, &bytes, rounds)?)
-    }
-}
-
-/// Messages that are worked on have at most 16 MiB.
-const MAX_MESSAGE: usize = 16_777_216;
-
-// Writes a message, or reads its bytes, so many times.
-fn worked(
-    alloc: Global,
-    encode: bool,
-    message: &Message,
-    bytes: &[u8],
-    rounds: u32,
-) -> Result<u64, Failure>
-    requires spelled { IsMessage message.now }
-    requires so { bytes.now ≡ message_bytes message.now }
-{
-    if bytes.len() > MAX_MESSAGE || message.stamp.0 > 1 {
-        return Err(Failure::Refused);
-    }
-    if encode {
-        Ok(write_message(alloc, message, rounds)?)
-    } else {
-        Ok(read_message(alloc, message, bytes, rounds)?)
-    }
-}
-
-fn messages(alloc: Global, encode: bool, sample: Sample, rounds: u32) -> Result<u64, Failure> {
-    let bytes = bytes(alloc, sample)?;
-    let message = node_messages::decode(alloc, &bytes)?;
-    worked(alloc, encode, &message, &bytes, rounds)
-}
-
-// Writes or reads a sample so many times.
-fn coded(alloc: Global, encode: bool, sample: Sample, rounds: u32) -> Result<u64, Failure> {
-    match sample {
-        Sample::FullLeaf | Sample::HalfLeaf | Sample::WideLeaf => {
-            images(alloc, encode, sample, rounds)
-        }
-        Sample::SmallGroup => groups(alloc, encode, sample, rounds),
-        Sample::Grant | Sample::Groups => messages(alloc, encode, sample, rounds),
-    }
-}
-
 /// Does the work so many times. Gives the checksum.
 pub fn done(alloc: Global, work: Work, rounds: u32) -> Result<u64, Failure> {
     match work {
-        Work::Encode(sample) => coded(alloc, true, sample, rounds),
-        Work::Decode(sample) => coded(alloc, false, sample, rounds),
+        Work::Encode(sample) => codec::write(alloc, sample, rounds),
+        Work::Decode(sample) => codec::read(alloc, sample, rounds),
         Work::Append(groups) => Ok(append(alloc, groups, rounds)? as u64),
         Work::Fetch(groups) => Ok(fetch(alloc, groups, rounds)? as u64),
         Work::Acknowledge(groups) => Ok(acknowledge(alloc, groups, rounds)? as u64),
@@ -194,13 +133,15 @@ pub fn done(alloc: Global, work: Work, rounds: u32) -> Result<u64, Failure> {
         Work::Conflict(count) => Ok(tags::ask(alloc, count, rounds)? as u64),
         Work::AddTag(count) => Ok(tags::add(alloc, count, rounds)? as u64),
         Work::Foreign(count) => Ok(tags::seek_foreign(alloc, count, rounds)? as u64),
-        Work::AddRecord(length) => add(alloc, length, rounds),
-        Work::ReadPage(length) => read(alloc, length, rounds),
+        Work::AddRecord(length) => pages::add(alloc, length, rounds),
+        Work::ReadPage(length) => pages::read(alloc, length, rounds),
         Work::Put(order, rows) => Ok(put(alloc, order, rows, rounds)? as u64),
         Work::Look(order, rows) => Ok(look(alloc, order, rows, rounds)? as u64),
         Work::MapAt(events) => maps(alloc, events, rounds),
         Work::RowsAt(events) => rows(alloc, events, rounds),
         Work::Steps(kind, count) => Ok(turns(alloc, kind, false, count, rounds)? as u64),
         Work::Close(kind, count) => Ok(turns(alloc, kind, true, count, rounds)? as u64),
+        Work::ApplyGroup(groups) => Ok(replica::apply(alloc, groups, rounds)? as u64),
+        Work::GetAt(records) => Ok(replica::read(alloc, records, rounds)? as u64),
     }
 }
