@@ -1,16 +1,21 @@
 //! The clock of a writer, and its log.
-ghost use Rattle.std.specs.Prelude.{◌≡◌, ◌≤◌, ◌<◌, ◌+◌, ◌-◌, ◌^◌, IfOk, OnOk, OnErr};
+ghost use Rattle.std.specs.Prelude.{◌≡◌, ◌≤◌, ◌<◌, ◌+◌, ◌-◌, ◌^◌, ◌∷◌, [], Ok, Some, IfOk, IsOk, OnOk, OnErr};
 ghost use Rattle.tm_data.specs.Vectors.{greatest};
 ghost use Rattle.vs_clock.specs.State.{started, heard_scalar, heard_vector, sending, ticked, told};
 ghost use Rattle.std.specs.Option.{option_copied};
 ghost use Rattle.log_writer.specs.Log.{acked, appended, durable_seq, durable_stamp, group_of, lacking, last_seq, last_stamp, let_go, new_log, numbered, resent, settled};
 ghost use Rattle.log_writer.specs.TakenBack.{taken_back};
+ghost use Rattle.page_model.specs.Effects.{page_of};
+ghost use Rattle.buffer_pool.specs.Change.{change_of};
 
+use buffer_pool::Pool;
 use log_writer::LogWriter;
-use log_writer::laws::letting_go_changes_no_answer;
+use log_writer::laws::{a_group_is_dropped_whole, letting_go_changes_no_answer};
 use std::alloc::Global;
 use std::marker::Model;
-use tm_base::{Group, GroupList, Mem, RecordList, Stamp, TryCopy, Vector, Writer};
+use tm_base::{
+    Group, GroupList, Mem, NoMemory, Page, Record, RecordList, Stamp, TryCopy, Vector, Writer,
+};
 use vs_clock::Clock;
 
 /// A writer's clock and its log. No group has a stamp above the clock's scalar. Contracts see the state of the clock
@@ -223,6 +228,40 @@ impl ClockedLog {
         ensures err { OnErr result (self.new ≡ self.old) }
     {
         self.log.append(group)?;
+        let _ = self.clock.tick();
+        self.clock.told();
+        Ok(())
+    }
+
+    /// Logs the next group, whose one record suits the image of its page, and changes the image. Its stamp is at most
+    /// `2^63 - 1`. With want of memory nothing changes: the group goes again where the image can't be changed, and the
+    /// clock ticks last, since it can't go back.
+    #[tactic(auto, using(crate::proofs::ChangeLemmas::refused))]
+    pub fn log_change(
+        &mut self,
+        pool: &mut Pool,
+        page: Page,
+        change: &Record,
+        group: Group,
+    ) -> Mem<()>
+        requires own { group.writer ≡ self.old.log.writer }
+        requires number { group.seq ≡ last_seq self.old.log + 1 }
+        requires next { group.stamp.0 ≡ self.old.clock.scalar + 1 }
+        requires stamp { group.stamp.0 ≤ 2 ^ 63 - 1 }
+        requires names { page_of change.now ≡ Some page.0 }
+        requires suits { IsOk (change_of pool.old page.0 change.now group.stamp.0) }
+        ensures ok { OnOk result (self.new ≡ record { clock = told (ticked self.old.clock); log = appended self.old.log group }) }
+        ensures image { OnOk result (change_of pool.old page.0 change.now group.stamp.0 ≡ Ok pool.new) }
+        ensures err { OnErr result (self.new ≡ self.old) }
+        ensures same { OnErr result (pool.new ≡ pool.old) }
+    {
+        let stamp = group.stamp;
+        self.log.append(group)?;
+        let Ok(()) = pool.change(page, change, stamp) else {
+            a_group_is_dropped_whole();
+            self.log.drop_last();
+            return Err(NoMemory);
+        };
         let _ = self.clock.tick();
         self.clock.told();
         Ok(())

@@ -1,12 +1,13 @@
 //! Groups that change no page, and what a command waits for.
-ghost use Rattle.std.specs.Prelude.{◌≡◌, ◌+◌, ◌<◌, ◌≤◌, ◌-◌, ◌^◌, ◌∷◌, [], None, true, IfOk, OnOk, OnErr};
+ghost use Rattle.std.specs.Prelude.{◌≡◌, ◌+◌, ◌<◌, ◌≤◌, ◌-◌, ◌^◌, ◌∷◌, [], None, Some, true, IfOk, IsOk, OnOk, OnErr};
 ghost use Rattle.std.specs.List.{AllByRecursion};
 ghost use Rattle.page_model.specs.Effects.{page_of};
+ghost use Rattle.buffer_pool.specs.Change.{change_of};
 ghost use Rattle.master_model.specs.Ends.{awaited};
 ghost use Rattle.master_model.specs.Logging.{has_numbers, has_stamps, next_group, with_group};
 
 use crate::WorkState;
-use tm_base::{Group, Mem, Record, RecordList};
+use tm_base::{Group, Mem, Page, Record, RecordList};
 
 /// The greatest stamp.
 const LAST_STAMP: u64 = 0x7fff_ffff_ffff_ffff;
@@ -47,6 +48,24 @@ impl WorkState {
         ensures err { OnErr result (self.new ≡ self.old) }
     {
         self.timed.log(group)?;
+        Ok(())
+    }
+
+    /// Logs the next group, whose one record suits the image of its page, and changes the image; the page's last change
+    /// is the group's then. There is a stamp for it. With want of memory nothing changes.
+    #[tactic(auto, using(crate::proofs::ChangeLemmas::with_one))]
+    pub fn log_change(&mut self, page: Page, change: &Record, group: Group) -> Mem<()>
+        requires stamp { has_stamps self.old 1 ≡ true }
+        requires one { group.records ≡ change.now ∷ [] }
+        requires names { page_of change.now ≡ Some page.0 }
+        requires suits { IsOk (change_of self.old.pool page.0 change.now group.stamp.0) }
+        requires next { group ≡ next_group self.old group.records }
+        ensures ok { OnOk result (self.new ≡ with_group self.old group) }
+        ensures err { OnErr result (self.new ≡ self.old) }
+    {
+        let stamp = group.stamp;
+        self.timed.log_change(&mut self.pool, page, change, group)?;
+        self.desk.changed(page, stamp);
         Ok(())
     }
 
