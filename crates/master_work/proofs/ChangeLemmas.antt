@@ -1,10 +1,12 @@
--- A record that is logged changes the image of its page; one that isn't applied leaves all as it was.
-use Rattle.std.proofs.Common.{◌≡◌, ◌∙◌, ℕ, Bool, true, false, List, [], ◌∷◌, Option, Some, None, nat_eq, refl, sym, ap}
+-- A record that is logged changes the image of its page, if it suits that.
+use Rattle.std.proofs.Common.{◌≡◌, ◌∙◌, ℕ, Bool, true, false, List, [], ◌∷◌, Option, Some, None, IsSome, nat_eq, refl, sym, ap, subst}
+use Rattle.std.specs.Cmp.{unsigned_Decides}
 use Rattle.std.specs.declared.result.Result.{Result}
 use Rattle.std.specs.declared.result.Result.TheVariants.{Ok, Err}
 use Rattle.tm_data.specs.declared.image.Image.{Image}
 use Rattle.tm_data.specs.declared.log.Group.{Group}
 use Rattle.tm_data.specs.declared.log.Record.{Record}
+use Rattle.tm_data.specs.declared.transaction.Stamp.{Stamp}
 use Rattle.page_model.specs.Effects.{page_of, prev_of, redone_at}
 use Rattle.page_model.specs.Pool.{Pool, image_of}
 use Rattle.page_redo.specs.declared.error.RedoError.{RedoError}
@@ -16,34 +18,53 @@ use Rattle.log_writer.specs.Log.{appended}
 use Rattle.lease_desk.specs.Desk.{changed}
 use Rattle.master_model.specs.State.{Work}
 use Rattle.master_model.specs.Logging.{put_back, redone_if, with_change, with_changes, with_group}
+use Rattle.master_work.specs.Changes.{IsMadeOn, redone_in}
 
-pub refused : {X : Type 0} (why : RedoError) (old new : X) (given : Result X RedoError) → Answers {U = Unit {0}} (Err why) old new given → new ≡ old
-refused NoMemory old new given h = h.0
-refused Unfit old new given h = h.0
-refused (WrongPrev has wants) old new given h = h.0
+-- What is answered of a record that was made on the image: its effect, or that it doesn't suit, and has none.
+abbrev Made : Pool → ℕ → Record → ℕ → Type 0
+Made p page r stamp = (o : Option Image) × (change_of p page r stamp ≡ with_version p (if_suiting o)) × (redone_in p page r stamp ≡ record p { images = put_back p.images o })
 
--- what a change of a pool's image makes of the images is what the definitions make of them
-changed_images : (p : Pool) (page : ℕ) (r : Record) (stamp : ℕ) (new : Pool) → change_of p page r stamp ≡ Ok new → record p { images = redone_if p.images r stamp (image_of page p.images) } ≡ new
-changed_images p page r stamp new is = by (image_of page p.images) is
+made : (p : Pool) (page : ℕ) (r : Record) (stamp : ℕ) → IsMadeOn p page r → Made p page r stamp
+made p page r stamp (image, is, same) = (redone_at image r stamp,
+    ap (λ (x : Option Image). change_held p x r stamp) is ∙ ap (λ (b : Bool). with_version p (if_next image r stamp b)) ((unsigned_Decides (prev_of r) image.stamp.0).1 same),
+    ap (λ (x : Option Image). record p { images = redone_if p.images r stamp x }) is)
+
+pub applied : (p new : Pool) (page : ℕ) (r : Record) (stamp : ℕ) → IsMadeOn p page r → change_of p page r stamp ≡ Ok new → new ≡ redone_in p page r stamp
+applied p new page r stamp on is = by m.0 (sym m.1 ∙ is) ∙ sym m.2
   where
-    suiting : (o : Option Image) → with_version p (if_suiting o) ≡ Ok new → record p { images = put_back p.images o } ≡ new
-    suiting None e = absurd (cc e)
-    suiting (Some i) e = cc e
+    m : Made p page r stamp
+    m = made p page r stamp on
 
-    next : (image : Image) (b : Bool) → with_version p (if_next image r stamp b) ≡ Ok new → record p { images = put_back p.images (redone_at image r stamp) } ≡ new
-    next image true e = suiting (redone_at image r stamp) e
-    next image false e = absurd (cc e)
-
-    by : (o : Option Image) → change_held p o r stamp ≡ Ok new → record p { images = redone_if p.images r stamp o } ≡ new
+    by : (o : Option Image) → with_version p (if_suiting o) ≡ Ok new → new ≡ record p { images = put_back p.images o }
     by None e = absurd (cc e)
-    by (Some image) e = next image (nat_eq (prev_of r) image.stamp.0) e
+    by (Some i) e = cc e
+
+pub unfit : (p : Pool) (page : ℕ) (r : Record) (stamp : ℕ) → IsMadeOn p page r → change_of p page r stamp ≡ Err Unfit → p ≡ redone_in p page r stamp
+unfit p page r stamp on is = by m.0 (sym m.1 ∙ is) ∙ sym m.2
+  where
+    m : Made p page r stamp
+    m = made p page r stamp on
+
+    by : (o : Option Image) → with_version p (if_suiting o) ≡ Err Unfit → p ≡ record p { images = put_back p.images o }
+    by None e = refl
+    by (Some i) e = absurd (cc e)
+
+pub never_wrong : (p : Pool) (page : ℕ) (r : Record) (stamp : ℕ) (has wants : Stamp) → IsMadeOn p page r → change_of p page r stamp ≡ Err (WrongPrev has wants) → p ≡ redone_in p page r stamp
+never_wrong p page r stamp has wants on is = absurd (by m.0 (sym m.1 ∙ is))
+  where
+    m : Made p page r stamp
+    m = made p page r stamp on
+
+    by : (o : Option Image) → with_version p (if_suiting o) ≡ Err (WrongPrev has wants) → ⊥
+    by None e = cc e
+    by (Some i) e = cc e
 
 -- the state once a group of one record is logged
-pub with_one : (w : Work) (g : Group) (r : Record) (page : ℕ) (new : Pool) → g.records ≡ r ∷ [] → page_of r ≡ Some page → change_of w.pool page r g.stamp.0 ≡ Ok new
+pub with_one : (w : Work) (g : Group) (r : Record) (page : ℕ) (new : Pool) → g.records ≡ r ∷ [] → page_of r ≡ Some page → new ≡ redone_in w.pool page r g.stamp.0
     → record w { clock = told (ticked w.clock); log = appended w.log g; pool = new; leases = changed w.leases page g.stamp } ≡ with_group w g
-with_one w g r page new one names is = sym (
-    ap (λ (rs : List Record). with_changes logged rs g.stamp.0) one ∙ ap (λ (o : Option ℕ). with_change logged r g.stamp.0 o) names
-    ∙ ap (λ (p : Pool). record logged { pool = p; leases = changed w.leases page g.stamp }) (changed_images w.pool page r g.stamp.0 new is))
+with_one w g r page new one names is =
+    ap (λ (p : Pool). record logged { pool = p; leases = changed w.leases page g.stamp }) is
+    ∙ sym (ap (λ (rs : List Record). with_changes logged rs g.stamp.0) one ∙ ap (λ (o : Option ℕ). with_change logged r g.stamp.0 o) names)
   where
     logged : Work
     logged = record w { clock = told (ticked w.clock); log = appended w.log g }

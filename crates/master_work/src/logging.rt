@@ -1,8 +1,8 @@
 //! Groups that change no page, and what a command waits for.
-ghost use Rattle.std.specs.Prelude.{◌≡◌, ◌+◌, ◌<◌, ◌≤◌, ◌-◌, ◌^◌, ◌∷◌, [], None, Some, true, IfOk, IsOk, OnOk, OnErr};
+ghost use Rattle.std.specs.Prelude.{◌≡◌, ◌+◌, ◌<◌, ◌≤◌, ◌-◌, ◌^◌, ◌∷◌, [], None, Some, true, IfOk, OnOk, OnErr};
 ghost use Rattle.std.specs.List.{AllByRecursion};
 ghost use Rattle.page_model.specs.Effects.{page_of};
-ghost use Rattle.buffer_pool.specs.Change.{change_of};
+ghost use Rattle.master_work.specs.Changes.{IsMadeOn};
 ghost use Rattle.master_model.specs.Ends.{awaited};
 ghost use Rattle.master_model.specs.Logging.{has_numbers, has_stamps, next_group, with_group};
 
@@ -51,14 +51,15 @@ impl WorkState {
         Ok(())
     }
 
-    /// Logs the next group, whose one record suits the image of its page, and changes the image; the page's last change
-    /// is the group's then. There is a stamp for it. With want of memory nothing changes.
+    /// Logs the next group, whose one record was made on the image of its page as the pool has it, and changes the image,
+    /// unless the record doesn't suit it; the page's last change is the group's then. There is a stamp for it. With want
+    /// of memory nothing changes.
     #[tactic(auto, using(crate::proofs::ChangeLemmas::with_one))]
     pub fn log_change(&mut self, page: Page, change: &Record, group: Group) -> Mem<()>
         requires stamp { has_stamps self.old 1 ≡ true }
         requires one { group.records ≡ change.now ∷ [] }
         requires names { page_of change.now ≡ Some page.0 }
-        requires suits { IsOk (change_of self.old.pool page.0 change.now group.stamp.0) }
+        requires held { IsMadeOn self.old.pool page.0 change.now }
         requires next { group ≡ next_group self.old group.records }
         ensures ok { OnOk result (self.new ≡ with_group self.old group) }
         ensures err { OnErr result (self.new ≡ self.old) }
