@@ -268,6 +268,51 @@ impl ClockedLog {
     }
 }
 
+impl ClockedLog {
+    /// Logs such a group, and one after it that changes no page. With want of memory nothing changes.
+    pub fn log_change_and(
+        &mut self,
+        pool: &mut Pool,
+        page: Page,
+        change: &Record,
+        group: Group,
+        after: Group,
+    ) -> Mem<()>
+        requires own { group.writer ≡ self.old.log.writer }
+        requires number { group.seq ≡ last_seq self.old.log + 1 }
+        requires next { group.stamp.0 ≡ self.old.clock.scalar + 1 }
+        requires names { page_of change.now ≡ Some page.0 }
+        requires held { IsMadeOn pool.old page.0 change.now }
+        requires after_own { after.writer ≡ self.old.log.writer }
+        requires after_number { after.seq ≡ last_seq self.old.log + 2 }
+        requires after_next { after.stamp.0 ≡ self.old.clock.scalar + 2 }
+        requires stamp { after.stamp.0 ≤ 2 ^ 63 - 1 }
+        ensures ok { OnOk result (self.new ≡ record { clock = told (ticked (told (ticked self.old.clock))); log = appended (appended self.old.log group) after }) }
+        ensures image { OnOk result (pool.new ≡ redone_in pool.old page.0 change.now group.stamp.0) }
+        ensures err { OnErr result (self.new ≡ self.old) }
+        ensures same { OnErr result (pool.new ≡ pool.old) }
+    {
+        let stamp = group.stamp;
+        self.log.append(group)?;
+        if self.log.append(after).is_err() {
+            a_group_is_dropped_whole();
+            self.log.drop_last();
+            return Err(NoMemory);
+        }
+        if change_image(pool, page, change, stamp).is_err() {
+            a_group_is_dropped_whole();
+            self.log.drop_last();
+            self.log.drop_last();
+            return Err(NoMemory);
+        }
+        let _ = self.clock.tick();
+        self.clock.told();
+        let _ = self.clock.tick();
+        self.clock.told();
+        Ok(())
+    }
+}
+
 /// Changes the image of a page by a record that was made on it, unless the record doesn't suit it. With want of memory
 /// nothing changes.
 #[tactic(auto, using(crate::proofs::ChangeLemmas::applied, crate::proofs::ChangeLemmas::unfit, crate::proofs::ChangeLemmas::never_wrong))]
