@@ -11,8 +11,8 @@ ghost use Rattle.master_work.specs.Changes.{IsMadeOn, redone_in};
 use buffer_pool::Pool;
 use log_writer::LogWriter;
 use log_writer::laws::{a_group_is_dropped_whole, letting_go_changes_no_answer};
-use std::alloc::Global;
 use page_redo::RedoError;
+use std::alloc::Global;
 use std::marker::Model;
 use tm_base::{
     Group, GroupList, Mem, NoMemory, Page, Record, RecordList, Stamp, TryCopy, Vector, Writer,
