@@ -1,16 +1,22 @@
 //! The clock of a writer, and its log.
-ghost use Rattle.std.specs.Prelude.{◌≡◌, ◌≤◌, ◌<◌, ◌+◌, ◌-◌, ◌^◌, IfOk, OnOk, OnErr};
+ghost use Rattle.std.specs.Prelude.{◌≡◌, ◌≤◌, ◌<◌, ◌+◌, ◌-◌, ◌^◌, Some, IfOk, OnOk, OnErr};
 ghost use Rattle.tm_data.specs.Vectors.{greatest};
 ghost use Rattle.vs_clock.specs.State.{started, heard_scalar, heard_vector, sending, ticked, told};
 ghost use Rattle.std.specs.Option.{option_copied};
 ghost use Rattle.log_writer.specs.Log.{acked, appended, durable_seq, durable_stamp, group_of, lacking, last_seq, last_stamp, let_go, new_log, numbered, resent, settled};
 ghost use Rattle.log_writer.specs.TakenBack.{taken_back};
+ghost use Rattle.page_model.specs.Effects.{page_of};
+ghost use Rattle.master_work.specs.Changes.{IsMadeOn, redone_in};
 
+use buffer_pool::Pool;
 use log_writer::LogWriter;
-use log_writer::laws::letting_go_changes_no_answer;
+use log_writer::laws::{a_group_is_dropped_whole, letting_go_changes_no_answer};
+use page_redo::RedoError;
 use std::alloc::Global;
 use std::marker::Model;
-use tm_base::{Group, GroupList, Mem, RecordList, Stamp, TryCopy, Vector, Writer};
+use tm_base::{
+    Group, GroupList, Mem, NoMemory, Page, Record, RecordList, Stamp, TryCopy, Vector, Writer,
+};
 use vs_clock::Clock;
 
 /// A writer's clock and its log. No group has a stamp above the clock's scalar. Contracts see the state of the clock
@@ -226,5 +232,100 @@ impl ClockedLog {
         let _ = self.clock.tick();
         self.clock.told();
         Ok(())
+    }
+
+    /// Logs the next group, whose one record was made on the image of its page as the pool has it, and changes the image,
+    /// unless the record doesn't suit it. Its stamp is at most `2^63 - 1`. With want of memory nothing changes: the
+    /// group goes again where the image can't be changed, and the clock ticks last, since it can't go back.
+    pub fn log_change(
+        &mut self,
+        pool: &mut Pool,
+        page: Page,
+        change: &Record,
+        group: Group,
+    ) -> Mem<()>
+        requires own { group.writer ≡ self.old.log.writer }
+        requires number { group.seq ≡ last_seq self.old.log + 1 }
+        requires next { group.stamp.0 ≡ self.old.clock.scalar + 1 }
+        requires stamp { group.stamp.0 ≤ 2 ^ 63 - 1 }
+        requires names { page_of change.now ≡ Some page.0 }
+        requires held { IsMadeOn pool.old page.0 change.now }
+        ensures ok { OnOk result (self.new ≡ record { clock = told (ticked self.old.clock); log = appended self.old.log group }) }
+        ensures image { OnOk result (pool.new ≡ redone_in pool.old page.0 change.now group.stamp.0) }
+        ensures err { OnErr result (self.new ≡ self.old) }
+        ensures same { OnErr result (pool.new ≡ pool.old) }
+    {
+        let stamp = group.stamp;
+        self.log.append(group)?;
+        if change_image(pool, page, change, stamp).is_err() {
+            a_group_is_dropped_whole();
+            self.log.drop_last();
+            return Err(NoMemory);
+        }
+        let _ = self.clock.tick();
+        self.clock.told();
+        Ok(())
+    }
+}
+
+impl ClockedLog {
+    /// Logs such a group, and one after it that changes no page. With want of memory nothing changes.
+    pub fn log_change_and(
+        &mut self,
+        pool: &mut Pool,
+        page: Page,
+        change: &Record,
+        group: Group,
+        after: Group,
+    ) -> Mem<()>
+        requires own { group.writer ≡ self.old.log.writer }
+        requires number { group.seq ≡ last_seq self.old.log + 1 }
+        requires next { group.stamp.0 ≡ self.old.clock.scalar + 1 }
+        requires names { page_of change.now ≡ Some page.0 }
+        requires held { IsMadeOn pool.old page.0 change.now }
+        requires after_own { after.writer ≡ self.old.log.writer }
+        requires after_number { after.seq ≡ last_seq self.old.log + 2 }
+        requires after_next { after.stamp.0 ≡ self.old.clock.scalar + 2 }
+        requires stamp { after.stamp.0 ≤ 2 ^ 63 - 1 }
+        ensures ok { OnOk result (self.new ≡ record { clock = told (ticked (told (ticked self.old.clock))); log = appended (appended self.old.log group) after }) }
+        ensures image { OnOk result (pool.new ≡ redone_in pool.old page.0 change.now group.stamp.0) }
+        ensures err { OnErr result (self.new ≡ self.old) }
+        ensures same { OnErr result (pool.new ≡ pool.old) }
+    {
+        let stamp = group.stamp;
+        self.log.append(group)?;
+        if self.log.append(after).is_err() {
+            a_group_is_dropped_whole();
+            self.log.drop_last();
+            return Err(NoMemory);
+        }
+        if change_image(pool, page, change, stamp).is_err() {
+            a_group_is_dropped_whole();
+            self.log.drop_last();
+            self.log.drop_last();
+            return Err(NoMemory);
+        }
+        let _ = self.clock.tick();
+        self.clock.told();
+        let _ = self.clock.tick();
+        self.clock.told();
+        Ok(())
+    }
+}
+
+/// Changes the image of a page by a record that was made on it, unless the record doesn't suit it. With want of memory
+/// nothing changes.
+#[tactic(auto, using(crate::proofs::ChangeLemmas::applied, crate::proofs::ChangeLemmas::unfit, crate::proofs::ChangeLemmas::never_wrong))]
+fn change_image(pool: &mut Pool, page: Page, change: &Record, stamp: Stamp) -> Mem<()>
+    requires names { page_of change.now ≡ Some page.0 }
+    requires held { IsMadeOn pool.old page.0 change.now }
+    ensures ok { OnOk result (pool.new ≡ redone_in pool.old page.0 change.now stamp.0) }
+    ensures err { OnErr result (pool.new ≡ pool.old) }
+{
+    match pool.change(page, change, stamp) {
+        Ok(()) => Ok(()),
+        Err(RedoError::Unfit) => Ok(()),
+        Err(RedoError::WrongPrev { .. }) => Ok(()),
+        Err(RedoError::NoMemory) => Err(NoMemory),
     }
 }

@@ -1,12 +1,13 @@
 //! Groups that change no page, and what a command waits for.
-ghost use Rattle.std.specs.Prelude.{◌≡◌, ◌+◌, ◌<◌, ◌≤◌, ◌-◌, ◌^◌, ◌∷◌, [], None, true, IfOk, OnOk, OnErr};
+ghost use Rattle.std.specs.Prelude.{◌≡◌, ◌+◌, ◌<◌, ◌≤◌, ◌-◌, ◌^◌, ◌∷◌, [], None, Some, true, IfOk, OnOk, OnErr};
 ghost use Rattle.std.specs.List.{AllByRecursion};
 ghost use Rattle.page_model.specs.Effects.{page_of};
+ghost use Rattle.master_work.specs.Changes.{IsMadeOn, group_after};
 ghost use Rattle.master_model.specs.Ends.{awaited};
 ghost use Rattle.master_model.specs.Logging.{has_numbers, has_stamps, next_group, with_group};
 
 use crate::WorkState;
-use tm_base::{Group, Mem, Record, RecordList};
+use tm_base::{Group, Mem, Page, Record, RecordList, Stamp, Vector};
 
 /// The greatest stamp.
 const LAST_STAMP: u64 = 0x7fff_ffff_ffff_ffff;
@@ -47,6 +48,69 @@ impl WorkState {
         ensures err { OnErr result (self.new ≡ self.old) }
     {
         self.timed.log(group)?;
+        Ok(())
+    }
+
+    /// Logs the next group, whose one record was made on the image of its page as the pool has it, and changes the image,
+    /// unless the record doesn't suit it; the page's last change is the group's then. There is a stamp for it. With want
+    /// of memory nothing changes.
+    #[tactic(auto, using(crate::proofs::ChangeLemmas::with_one))]
+    pub fn log_change(&mut self, page: Page, change: &Record, group: Group) -> Mem<()>
+        requires stamp { has_stamps self.old 1 ≡ true }
+        requires one { group.records ≡ change.now ∷ [] }
+        requires names { page_of change.now ≡ Some page.0 }
+        requires held { IsMadeOn self.old.pool page.0 change.now }
+        requires next { group ≡ next_group self.old group.records }
+        ensures ok { OnOk result (self.new ≡ with_group self.old group) }
+        ensures err { OnErr result (self.new ≡ self.old) }
+    {
+        let stamp = group.stamp;
+        self.timed.log_change(&mut self.pool, page, change, group)?;
+        self.desk.changed(page, stamp);
+        Ok(())
+    }
+
+    /// The group of one record after the next one, which tells nothing more. There are numbers for both. It isn't logged
+    /// yet.
+    pub fn group_after(&self, change: Record) -> Mem<Group>
+        requires { has_numbers self.now 2 ≡ true }
+        ensures { IfOk result (λ group. group ≡ group_after self.now (change ∷ [])) }
+    {
+        let mut records = RecordList::new(self.alloc);
+        records.push(change)?;
+        Ok(Group {
+            writer: self.timed.writer(),
+            seq: self.timed.last_seq() + 2,
+            stamp: Stamp(self.timed.scalar().0 + 2),
+            learnt: Vector::new(self.alloc),
+            records,
+        })
+    }
+
+    /// Logs the next group as [`log_change`](WorkState::log_change) does, and one after it that changes no page. There
+    /// are stamps for both. With want of memory nothing changes.
+    #[tactic(auto, using(crate::proofs::ChangeLemmas::with_two))]
+    pub fn log_change_and(
+        &mut self,
+        page: Page,
+        change: &Record,
+        group: Group,
+        after: Group,
+    ) -> Mem<()>
+        requires stamp { has_stamps self.old 2 ≡ true }
+        requires one { group.records ≡ change.now ∷ [] }
+        requires names { page_of change.now ≡ Some page.0 }
+        requires held { IsMadeOn self.old.pool page.0 change.now }
+        requires next { group ≡ next_group self.old group.records }
+        requires after { after ≡ group_after self.old after.records }
+        requires plain { AllByRecursion (λ change. page_of change ≡ None) after.records }
+        ensures ok { OnOk result (self.new ≡ with_group (with_group self.old group) after) }
+        ensures err { OnErr result (self.new ≡ self.old) }
+    {
+        let stamp = group.stamp;
+        self.timed
+            .log_change_and(&mut self.pool, page, change, group, after)?;
+        self.desk.changed(page, stamp);
         Ok(())
     }
 

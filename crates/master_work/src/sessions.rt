@@ -5,7 +5,7 @@ ghost use Rattle.std.specs.Option.{option_copied};
 ghost use Rattle.std.specs.FinMap as fin;
 ghost use Rattle.master_model.specs.Fates.{is_over, is_open_in};
 ghost use Rattle.master_model.specs.declared.session.Own.{Own};
-ghost use Rattle.master_model.specs.declared.session.Progress.TheVariants.{Active};
+ghost use Rattle.master_model.specs.declared.session.Progress.TheVariants.{Active, Undoing};
 
 use master_model::{Own, Progress};
 use master_parts::NumberTable;
@@ -140,6 +140,28 @@ impl Sessions {
         let added = own.written.insert(row);
         self.owns.replace(session, own);
         added
+    }
+
+    /// The transaction of a session has undone a row, which counts no more as written. It takes no memory.
+    pub fn undone(&mut self, session: u16, row: &RowKey)
+        requires { IsSome (fin.get self.old.owns session) }
+        ensures { (own : Own) → fin.get self.old.owns session ≡ Some own
+            → self.new ≡ record self.old { owns = fin.insert self.old.owns session (record own { written = fin.remove own.written row.now; progress = Undoing }) } }
+    {
+        let session = u32::from(session);
+        let Some(own) = self.owns.replace(session, nothing(self.alloc)) else {
+            return;
+        };
+        let mut written = own.written;
+        written.remove(row);
+        self.owns.replace(
+            session,
+            Own {
+                number: own.number,
+                written,
+                progress: Progress::Undoing,
+            },
+        );
     }
 
     /// A session has no transaction any more. It takes no memory.
