@@ -1,17 +1,23 @@
 -- The transactions of sessions, and the sessions by their numbers.
 use Rattle.std.proofs.Common.{◌≡◌, ◌≤◌, ◌<◌, ◌+◌, ℕ, Bool, true, false, cond, List, [], ◌∷◌, Option, Some, None, refl, ap, sym, subst, ◌∙◌, arith}
-use Rattle.std.specs.Prelude.{T, nat_eq, not, ◌&&◌, ◌||◌, IsSome, OnOk, OnErr}
+use Rattle.std.specs.Prelude.{T, nat_eq, not, ◌&&◌, ◌||◌, IsSome, OnOk, OnErr, is_some, length}
 use Rattle.std.specs.declared.result.Result.{Result}
 use Rattle.std.specs.declared.result.Result.TheVariants.{Ok, Err}
 use Rattle.std.specs.List.{list_any}
-use Rattle.std.specs.Ordering.{nat_cmp, eq_by_cmp, is_lt}
+use Rattle.std.specs.Ordering.{nat_cmp, eq_by_cmp, is_eq, is_lt}
 use Rattle.std.specs.FinMap.{FinMap, get, insert, remove, empty, entries, entries_sorted, gets, get-empty, get-entries, same_map, nat_cmp-IsAntisymmetric}
-use Rattle.std.specs.Cmp.{nat_cmp_total}
+use Rattle.std.specs.Cmp.{Equal-is, nat_cmp_total, tied_itself}
 use Rattle.std.specs.FinMap.Entries.{below_all, find, is_sorted}
 use Rattle.std.proofs.lemmas.Bool.Decides.{nat_tests}
 use Rattle.master_model.specs.declared.session.Own.{Own}
 use Rattle.master_model.specs.Fates.{is_open_in, is_over}
-use Rattle.master_work.specs.Parts.{Begun, IsIndexed}
+use Rattle.std.specs.Iterator.{Yields, YieldsFirstRef}
+use Rattle.std.proofs.Common.{Bor, ◌⊎◌, inl, inr}
+use Rattle.std.specs.FinMap as fin
+use Rattle.std.specs.FinMap.{get-insert, get-remove, contains_key-keys}
+use Rattle.tm_data.specs.Orders.{row_cmp, row_cmp-total, row_cmp-exact}
+use Rattle.tm_data.specs.declared.row_map.RowKey.{RowKey}
+use Rattle.master_work.specs.Parts.{Begun, HaveKeys, IsIndexed}
 
 get_here : {X : Type 0} (m : FinMap nat_cmp X) (k : ℕ) (x : X) → get (insert m k x) k ≡ Some x
 get_here m k x = grind (arith, nat_tests, gets)
@@ -31,6 +37,58 @@ same q k is = grind (arith, nat_tests)
 apart : (q k : ℕ) → nat_eq q k ≡ false → q ≡ k → ⊥
 apart q k is one = let yes : nat_eq q k ≡ true = grind (arith, nat_tests) in absurd (cc (is, yes))
 
+-- ---- rows
+
+abbrev pub Rows : Type 0
+Rows = FinMap row_cmp (Unit {0})
+
+pub keys_none : HaveKeys empty
+keys_none row u there = let none : get (empty {X = Unit {0}} {R = row_cmp}) row ≡ None = get-empty row_cmp row in absurd (cc (none, there))
+
+-- One row more, or less.
+pub keys_more : (rows : Rows) (row : RowKey) → HaveKeys rows → 1 ≤ length row.key → length row.key ≤ 64 → HaveKeys (insert rows row tt)
+keys_more rows row h least most q u there = by (eq_by_cmp row_cmp q row) refl (sym (get-insert row_cmp-total rows row tt q) ∙ there)
+  where
+    by : (b : Bool) → eq_by_cmp row_cmp q row ≡ b → cond b (Some tt) (get rows q) ≡ Some u → (1 ≤ length q.key) × (length q.key ≤ 64)
+    by true is k = subst (λ (r : RowKey). (1 ≤ length r.key) × (length r.key ≤ 64)) (sym (row_cmp-exact q row ((Equal-is (row_cmp q row)).0 is))) (least, most)
+    by false is k = h q u k
+
+pub keys_less : (rows : Rows) (row : RowKey) → HaveKeys rows → HaveKeys (remove rows row)
+keys_less rows row h q u there = by (eq_by_cmp row_cmp q row) (sym (get-remove row_cmp-total rows row q) ∙ there)
+  where
+    by : (b : Bool) → cond b None (get rows q) ≡ Some u → (1 ≤ length q.key) × (length q.key ≤ 64)
+    by true k = absurd (cc k)
+    by false k = h q u k
+
+-- A row that is added, if there is memory for it.
+pub keys_after : {A E : Type 0} (r : Result A E) (rows new : Rows) (row : RowKey) → OnOk r (new ≡ insert rows row tt) → OnErr r (new ≡ rows) → HaveKeys rows → 1 ≤ length row.key → length row.key ≤ 64 → HaveKeys new
+keys_after (Ok x) rows new row ok err h least most = subst HaveKeys (sym ok) (keys_more rows row h least most)
+keys_after (Err e) rows new row ok err h least most = subst HaveKeys (sym err) h
+
+-- The first of some rows is one of them.
+pub first_keyed : (rows : Rows) (row : RowKey) (rest : List RowKey) → HaveKeys rows → fin.keys rows ≡ row ∷ rest → (1 ≤ length row.key) × (length row.key ≤ 64)
+first_keyed rows row rest h first = by (get rows row) refl has
+  where
+    or_left : (b : Bool) → true ≡ b → (c : Bool) → (b || c) ≡ true
+    or_left true k c = refl
+    or_left false k c = absurd (cc k)
+
+    has : is_some (get rows row) ≡ true
+    has = contains_key-keys rows row ∙ (ap (list_any (eq_by_cmp row_cmp row)) first ∙ or_left (eq_by_cmp row_cmp row row) (sym (ap is_eq (tied_itself row_cmp-total row))) (list_any (eq_by_cmp row_cmp row) rest))
+
+    by : (o : Option (Unit {0})) → get rows row ≡ o → is_some o ≡ true → (1 ≤ length row.key) × (length row.key ≤ 64)
+    by None is k = absurd (cc k)
+    by (Some u) is k = h row u is
+
+-- So many rows are left as an iterator still gives.
+pub counted : (xs : List (Bor RowKey)) (s t : List RowKey) → Yields (YieldsFirstRef (λ (rows : List RowKey). rows)) s xs t → t ≡ [] → length xs ≡ length s
+counted [] s t is none = sym (ap length (is ∙ none))
+counted (x ∷ xs) s t (j, first, more) none = let rest = counted xs j t more none in let all = ap length first in omega (arith, rest, all)
+
+pub out_of_range : (n : ℕ) → (1 ≤ n) × (n ≤ 64) → (n < 1) ⊎ (64 < n) → ⊥
+out_of_range n within (inl few) = omega (arith, within.0, few)
+out_of_range n within (inr many) = omega (arith, within.1, many)
+
 -- ---- the index
 
 -- Nothing was begun.
@@ -38,15 +96,17 @@ pub nothing_indexed : (owns : FinMap nat_cmp Own) (places : FinMap nat_cmp ℕ) 
 nothing_indexed owns places no_owns no_places = record {
   below = λ session own there. let none : get owns session ≡ None = ap (λ (m : FinMap nat_cmp Own). get m session) no_owns ∙ get-empty nat_cmp session in absurd (cc (none, there));
   found = λ session own there. let none : get owns session ≡ None = ap (λ (m : FinMap nat_cmp Own). get m session) no_owns ∙ get-empty nat_cmp session in absurd (cc (none, there));
+  rows = λ session own there. let none : get owns session ≡ None = ap (λ (m : FinMap nat_cmp Own). get m session) no_owns ∙ get-empty nat_cmp session in absurd (cc (none, there));
   there = λ number session there. let none : get places number ≡ None = ap (λ (m : FinMap nat_cmp ℕ). get m number) no_places ∙ get-empty nat_cmp number in absurd (cc (none, there));
 }
 
 -- A transaction begins in a session that has none.
 pub begun_indexed : (begun session : ℕ) (own : Own) (owns : FinMap nat_cmp Own) (places : FinMap nat_cmp ℕ) → IsIndexed begun owns places → get owns session ≡ None → own.number ≡ begun + 1
-    → IsIndexed (begun + 1) (insert owns session own) (insert places (begun + 1) session)
-begun_indexed begun session own owns places h free new = record {
+    → HaveKeys own.written → IsIndexed (begun + 1) (insert owns session own) (insert places (begun + 1) session)
+begun_indexed begun session own owns places h free new keyed = record {
   below = λ q o there. below_by q o (nat_eq q session) refl there;
   found = λ q o there. found_by q o (nat_eq q session) refl there;
+  rows = λ q o there. rows_by q o (nat_eq q session) refl there;
   there = λ number q there. there_by number q (nat_eq number (begun + 1)) refl there;
 }
   where
@@ -64,6 +124,10 @@ begun_indexed begun session own owns places h free new = record {
         let was = sym (get_other owns session q own (apart q session is)) ∙ there in
         get_other places (begun + 1) o.number session (λ one. omega (arith, h.below q o was, one)) ∙ h.found q o was
 
+    rows_by : (q : ℕ) (o : Own) (b : Bool) → nat_eq q session ≡ b → get (insert owns session own) q ≡ Some o → HaveKeys o.written
+    rows_by q o true is there = subst (λ (x : Own). HaveKeys x.written) (own_is q o is there) keyed
+    rows_by q o false is there = h.rows q o (sym (get_other owns session q own (apart q session is)) ∙ there)
+
     there_by : (number q : ℕ) (b : Bool) → nat_eq number (begun + 1) ≡ b → get (insert places (begun + 1) session) number ≡ Some q → (o : Own) × (get (insert owns session own) q ≡ Some o) × (o.number ≡ number)
     there_by number q true is there =
         let at : Some session ≡ Some q = sym (get_here places (begun + 1) session) ∙ (ap (get (insert places (begun + 1) session)) (sym (same number (begun + 1) is)) ∙ there) in
@@ -74,10 +138,12 @@ begun_indexed begun session own owns places h free new = record {
         (was.0, get_other owns session q own (λ one. let none : get owns q ≡ None = ap (get owns) one ∙ free in absurd (cc (none, was.1))) ∙ was.1, was.2)
 
 -- A session's transaction goes on under its number.
-pub kept_indexed : (begun session : ℕ) (old own : Own) (owns : FinMap nat_cmp Own) (places : FinMap nat_cmp ℕ) → IsIndexed begun owns places → get owns session ≡ Some old → own.number ≡ old.number → IsIndexed begun (insert owns session own) places
-kept_indexed begun session old own owns places h was keeps = record {
+pub kept_indexed : (begun session : ℕ) (old own : Own) (owns : FinMap nat_cmp Own) (places : FinMap nat_cmp ℕ) → IsIndexed begun owns places → get owns session ≡ Some old → own.number ≡ old.number → HaveKeys own.written
+    → IsIndexed begun (insert owns session own) places
+kept_indexed begun session old own owns places h was keeps keyed = record {
   below = λ q o there. below_by q o (nat_eq q session) refl there;
   found = λ q o there. found_by q o (nat_eq q session) refl there;
+  rows = λ q o there. rows_by q o (nat_eq q session) refl there;
   there = λ number q there. there_by number q (nat_eq q session) refl there;
 }
   where
@@ -92,6 +158,10 @@ kept_indexed begun session old own owns places h was keeps = record {
     found_by q o true is there =
         ap (get places) (sym (ap (λ (x : Own). x.number) (own_is q o is there)) ∙ keeps) ∙ (h.found session old was ∙ ap (λ (n : ℕ). Some n) (sym (same q session is)))
     found_by q o false is there = h.found q o (sym (get_other owns session q own (apart q session is)) ∙ there)
+
+    rows_by : (q : ℕ) (o : Own) (b : Bool) → nat_eq q session ≡ b → get (insert owns session own) q ≡ Some o → HaveKeys o.written
+    rows_by q o true is there = subst (λ (x : Own). HaveKeys x.written) (own_is q o is there) keyed
+    rows_by q o false is there = h.rows q o (sym (get_other owns session q own (apart q session is)) ∙ there)
 
     there_by : (number q : ℕ) (b : Bool) → nat_eq q session ≡ b → get places number ≡ Some q → (o : Own) × (get (insert owns session own) q ≡ Some o) × (o.number ≡ number)
     there_by number q true is there =
@@ -122,9 +192,10 @@ put_there m n k x is = subst (λ (o : Option _). IsSome o) (sym (ap (λ t. get t
 replaced : {X : Type 0} (m n p : FinMap nat_cmp X) (k : ℕ) (x y : X) → n ≡ insert m k x → p ≡ insert n k y → p ≡ insert m k y
 replaced m n p k x y first second = second ∙ (ap (λ t. insert t k y) first ∙ set_over m k x y)
 
-pub put_back_indexed : (begun k : ℕ) (old new x : Own) (owns n p : FinMap nat_cmp Own) (places : FinMap nat_cmp ℕ) → IsIndexed begun owns places → Some old ≡ get owns k → new.number ≡ old.number → n ≡ insert owns k x → p ≡ insert n k new → IsIndexed begun p places
-put_back_indexed begun k old new x owns n p places h was keeps first second =
-    subst (λ (m : FinMap nat_cmp Own). IsIndexed begun m places) (sym (replaced owns n p k x new first second)) (kept_indexed begun k old new owns places h (sym was) keeps)
+pub put_back_indexed : (begun k : ℕ) (old new x : Own) (owns n p : FinMap nat_cmp Own) (places : FinMap nat_cmp ℕ) → IsIndexed begun owns places → Some old ≡ get owns k → new.number ≡ old.number → HaveKeys new.written → n ≡ insert owns k x → p ≡ insert n k new
+    → IsIndexed begun p places
+put_back_indexed begun k old new x owns n p places h was keeps keyed first second =
+    subst (λ (m : FinMap nat_cmp Own). IsIndexed begun m places) (sym (replaced owns n p k x new first second)) (kept_indexed begun k old new owns places h (sym was) keeps keyed)
 
 -- so many were begun, and these are the sessions'
 abbrev with_owns : ℕ → FinMap nat_cmp Own → Begun
@@ -143,14 +214,9 @@ pub put_back_same : (b : Begun) (begun : ℕ) (owns n p : FinMap nat_cmp Own) (k
 put_back_same b begun owns n p k x old new view was first second same_as =
     ap (with_owns begun) (replaced owns n p k x new first second ∙ (ap (insert owns k) same_as ∙ set_same owns k old (sym was))) ∙ view
 
--- What follows where a call succeeds, and where it fails.
-pub then_ok : {A E P Q : Type 0} (r : Result A E) → (P → Q) → OnOk r P → OnOk r Q
-then_ok (Ok x) f p = f p
-then_ok (Err e) f p = tt
-
-pub then_err : {A E P Q : Type 0} (r : Result A E) → (P → Q) → OnErr r P → OnErr r Q
-then_err (Ok x) f p = tt
-then_err (Err e) f p = f p
+pub on_err : {A E P : Type 0} (r : Result A E) → P → OnErr r P
+on_err (Ok x) p = tt
+on_err (Err e) p = p
 
 -- A number that has no value is taken away.
 pub cut_none : {X : Type 0} (m : FinMap nat_cmp X) (k : ℕ) → get m k ≡ None → m ≡ remove m k
@@ -165,6 +231,7 @@ pub freed_indexed : (begun session : ℕ) (own : Own) (owns : FinMap nat_cmp Own
 freed_indexed begun session own owns places h was = record {
   below = λ q o there. h.below q o (other q o there);
   found = λ q o there. cut_other places own.number o.number (named q o there) ∙ h.found q o (other q o there);
+  rows = λ q o there. h.rows q o (other q o there);
   there = λ number q there. there_by number q (nat_eq number own.number) refl there;
 }
   where

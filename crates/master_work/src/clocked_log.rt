@@ -101,7 +101,7 @@ impl ClockedLog {
     }
 
     /// The own entry of the vector for sending: the stamp of the last durable group.
-    fn own_entry(&self) -> Stamp
+    pub fn own_entry(&self) -> Stamp
         ensures { result.0 ≡ durable_stamp self.now.log }
     {
         self.log.durable()

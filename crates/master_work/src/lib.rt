@@ -15,7 +15,7 @@ mod work_state;
 
 pub use answer::Answer;
 pub use clocked_log::ClockedLog;
-pub use sessions::Sessions;
+pub use sessions::{Sessions, WrittenRow};
 pub use store_count::StoreCount;
 pub use tags::{drop_tags, end_tags};
 pub use work_state::WorkState;

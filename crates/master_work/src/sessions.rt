@@ -1,17 +1,18 @@
 //! The transactions of a master's sessions.
-ghost use Rattle.std.specs.Prelude.{◌≡◌, ◌<◌, ◌+◌, ◌^◌, Some, None, IsSome, IfOk, OnOk, OnErr, IfSome, nat_eq};
+ghost use Rattle.std.specs.Prelude.{◌≡◌, ◌≤◌, ◌<◌, ◌+◌, ◌^◌, Some, None, IsSome, IfOk, OnOk, OnErr, IfSome, length, nat_eq, not};
 ghost use Rattle.std.specs.List.{list_any};
 ghost use Rattle.std.specs.Option.{option_copied};
 ghost use Rattle.std.specs.FinMap as fin;
 ghost use Rattle.master_model.specs.Fates.{is_over, is_open_in};
 ghost use Rattle.master_model.specs.declared.session.Own.{Own};
+ghost use Rattle.master_work.specs.Parts.{first_of};
 ghost use Rattle.master_model.specs.declared.session.Progress.TheVariants.{Active, Undoing};
 
 use master_model::{Own, Progress};
 use master_parts::NumberTable;
 use std::alloc::Global;
 use std::marker::Model;
-use tm_base::{Mem, RowKey, RowSet};
+use tm_base::{Key, LengthError, Mem, NoMemory, RowKey, RowSet, TryCopy};
 
 /// The transaction of each session that has one, and how many were begun: they are numbered from 1, each with a number
 /// of its own, by which its session is found. Contracts see how many were begun, and the finite map from session to
@@ -54,6 +55,16 @@ fn nothing(alloc: Global) -> Own {
         written: RowSet::new(alloc),
         progress: Progress::Active,
     }
+}
+
+/// A row that a transaction has written and not undone.
+#[derive(Drop)]
+pub struct WrittenRow {
+    pub row: RowKey,
+    /// The row's key.
+    pub key: Key,
+    /// How many such rows there are behind it, by table and key.
+    pub left: u64,
 }
 
 impl Sessions {
@@ -126,20 +137,64 @@ impl Sessions {
         );
     }
 
-    /// The transaction of a session has written a row. With want of memory nothing changes.
-    pub fn add_written(&mut self, session: u16, row: RowKey) -> Mem<()>
-        requires { IsSome (fin.get self.old.owns session) }
+    /// The transaction of a session has written a row, whose key has 1 to 64 bytes. Gives whether it hadn't before. With
+    /// want of memory nothing changes.
+    pub fn add_written(&mut self, session: u16, row: RowKey) -> Mem<bool>
+        requires there { IsSome (fin.get self.old.owns session) }
+        requires least { 1 ≤ length row.key }
+        requires most { length row.key ≤ 64 }
+        ensures new { (own : Own) → fin.get self.old.owns session ≡ Some own
+            → IfOk result (λ added. added ≡ not (fin.contains_key own.written row)) }
         ensures ok { (own : Own) → fin.get self.old.owns session ≡ Some own
             → OnOk result (self.new ≡ record self.old { owns = fin.insert self.old.owns session (record own { written = fin.insert own.written row tt }) }) }
         ensures err { OnErr result (self.new ≡ self.old) }
     {
         let session = u32::from(session);
         let Some(mut own) = self.owns.replace(session, nothing(self.alloc)) else {
-            return Ok(());
+            return Ok(false);
         };
+        let had = own.written.contains(&row);
         let added = own.written.insert(row);
         self.owns.replace(session, own);
-        added
+        added?;
+        Ok(!had)
+    }
+
+    /// Takes back that a session's transaction has written a row which it hadn't before. It takes no memory.
+    pub fn take_written_back(&mut self, session: u16, row: &RowKey)
+        requires { IsSome (fin.get self.old.owns session) }
+        ensures { (own : Own) → fin.get self.old.owns session ≡ Some own
+            → self.new ≡ record self.old { owns = fin.insert self.old.owns session (record own { written = fin.remove own.written row.now }) } }
+    {
+        let session = u32::from(session);
+        let Some(mut own) = self.owns.replace(session, nothing(self.alloc)) else {
+            return;
+        };
+        own.written.remove(row);
+        self.owns.replace(session, own);
+    }
+
+    /// The first row that a session's transaction has written and not undone, by table and key; none where there is none.
+    pub fn first_written(&self, session: u16) -> Mem<Option<WrittenRow>>
+        requires { IsSome (fin.get self.now.owns session) }
+        ensures { (own : Own) → fin.get self.now.owns session ≡ Some own
+            → IfOk result (λ first. first ≡ first_of (fin.keys own.written)) }
+    {
+        let Some(own) = self.owns.get(u32::from(session)) else {
+            return Ok(None);
+        };
+        let mut rows = own.written.iter();
+        let Some(row) = rows.next() else {
+            return Ok(None);
+        };
+        let key = match Key::new(self.alloc, row.key.as_slice()) {
+            Ok(key) => key,
+            Err(LengthError::Length { .. }) => unreachable!(),
+            Err(LengthError::NoMemory) => return Err(NoMemory),
+        };
+        let row = row.copy()?;
+        let left = rows.count() as u64;
+        Ok(Some(WrittenRow { row, key, left }))
     }
 
     /// The transaction of a session has undone a row, which counts no more as written. It takes no memory.

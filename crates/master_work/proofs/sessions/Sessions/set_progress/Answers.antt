@@ -1,4 +1,4 @@
-use Rattle.std.proofs.Common.{refl, ap}
+use Rattle.std.proofs.Common.{refl, ap, sym}
 use Rattle.master_model.specs.declared.session.Own.{Own}
 use Rattle.master_work.proofs.SessionLemmas.{put_back_changed, put_back_indexed, put_there}
 use Rattle.master_work.proofs.sessions.Sessions.set_progress.Goals as goal
@@ -9,7 +9,7 @@ replace-requires-2 c = put_there c.self.inside.owns.map c.replace.new.self.map c
 pub invariant_of-self-2 : goal.invariant_of-self-2
 invariant_of-self-2 c =
     let s = c.self.inside in
-    put_back_indexed s.begun c.from-session.result c.in-Some.own (record c.in-Some.own { progress = c.args.progress }) c.nothing.result s.owns.map c.replace.new.self.map c.replace-2.new.self.map s.places.map c.self.invariant c.in-Some.ensures.was refl
+    put_back_indexed s.begun c.from-session.result c.in-Some.own (record c.in-Some.own { progress = c.args.progress }) c.nothing.result s.owns.map c.replace.new.self.map c.replace-2.new.self.map s.places.map c.self.invariant c.in-Some.ensures.was refl (c.self.invariant.rows c.from-session.result c.in-Some.own (sym c.in-Some.ensures.was))
     c.replace.ensures.set c.replace-2.ensures.set
 
 pub returns : goal.returns

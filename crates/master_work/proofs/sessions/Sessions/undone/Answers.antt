@@ -1,8 +1,9 @@
-use Rattle.std.proofs.Common.{refl, ap, ◌∙◌}
+use Rattle.std.proofs.Common.{refl, ap, sym, subst, ◌∙◌}
 use Rattle.std.specs.FinMap as fin
 use Rattle.master_model.specs.declared.session.Own.{Own}
 use Rattle.master_model.specs.declared.session.Progress.TheVariants.{Undoing}
-use Rattle.master_work.proofs.SessionLemmas.{put_back_changed, put_back_indexed, put_there}
+use Rattle.master_work.specs.Parts.{HaveKeys}
+use Rattle.master_work.proofs.SessionLemmas.{keys_less, put_back_changed, put_back_indexed, put_there}
 use Rattle.master_work.proofs.sessions.Sessions.undone.Goals as goal
 
 pub replace-requires-2 : goal.replace-requires-2
@@ -12,7 +13,7 @@ pub invariant_of-self-2 : goal.invariant_of-self-2
 invariant_of-self-2 c =
     let s = c.self.inside in
     put_back_indexed s.begun c.from-session.result c.in-Some.own (record c.in-Some.own { written = c.remove.new.self; progress = Undoing }) c.nothing.result s.owns.map c.replace.new.self.map c.replace-2.new.self.map s.places.map c.self.invariant
-    c.in-Some.ensures.was refl c.replace.ensures.set c.replace-2.ensures.set
+    c.in-Some.ensures.was refl (subst HaveKeys (sym c.remove.ensures) (keys_less _ _ (c.self.invariant.rows c.from-session.result c.in-Some.own (sym c.in-Some.ensures.was)))) c.replace.ensures.set c.replace-2.ensures.set
 
 pub returns : goal.returns
 returns c own at =
