@@ -1,2 +1,3 @@
 pub mod UsedLemmas
 pub mod UndoLemmas
+pub mod AbortLemmas

@@ -18,7 +18,7 @@ use tm_base::{
 
 /// The record that undoes the row of a key: where the row is the transaction's, and isn't undone already, its value is
 /// again what it was before the transaction's first write. The transaction stays in the row.
-fn undoing(leaf: &Image, table: u16, key: &Key, txn: Txn) -> Mem<Option<Record>>
+pub(crate) fn undoing(leaf: &Image, table: u16, key: &Key, txn: Txn) -> Mem<Option<Record>>
     ensures { IfOk result (λ change. change ≡ undoing leaf.now table key.now txn) }
 {
     let Some(row) = row_at(leaf, key) else {
@@ -45,7 +45,7 @@ fn undoing(leaf: &Image, table: u16, key: &Key, txn: Txn) -> Mem<Option<Record>>
 }
 
 /// How many groups it wants.
-fn count_of(change: &Option<Record>) -> u32
+pub(crate) fn count_of(change: &Option<Record>) -> u32
     ensures { result ≡ count_of change.now }
 {
     match change {
@@ -56,7 +56,7 @@ fn count_of(change: &Option<Record>) -> u32
 
 /// Logs a record that was made on the image of its page as the pool has it, and gives its group. There are a number and
 /// a stamp for it. With want of memory nothing changes.
-fn log_one(work: &mut WorkState, page: Page, change: &Record) -> Mem<GroupList>
+pub fn log_one(work: &mut WorkState, page: Page, change: &Record) -> Mem<GroupList>
     requires number { has_numbers work.old 1 ≡ true }
     requires stamp { has_stamps work.old 1 ≡ true }
     requires names { page_of change.now ≡ Some page.0 }
@@ -72,7 +72,11 @@ fn log_one(work: &mut WorkState, page: Page, change: &Record) -> Mem<GroupList>
 }
 
 /// Logs a record, if there is one. There are a number and a stamp for it. With want of memory nothing changes.
-fn log_undone(work: &mut WorkState, page: Page, change: &Option<Record>) -> Mem<GroupList>
+pub(crate) fn log_undone(
+    work: &mut WorkState,
+    page: Page,
+    change: &Option<Record>,
+) -> Mem<GroupList>
     requires number { has_numbers work.old (count_of change.now) ≡ true }
     requires stamp { has_stamps work.old (count_of change.now) ≡ true }
     requires made { IsMadeAt work.old.pool page.0 change.now }

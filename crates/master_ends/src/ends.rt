@@ -5,7 +5,7 @@ ghost use Rattle.master_model.specs.declared.session.Own.{Own};
 ghost use Rattle.master_model.specs.Ends.{answers_end, awaited, ends, waits};
 ghost use Rattle.master_model.specs.Logging.{has_numbers, has_stamps};
 ghost use Rattle.master_work.specs.Answers.{answered};
-ghost use Rattle.master_ends.specs.Ended.{logs_end, waits_in, with_logged};
+ghost use Rattle.master_ends.specs.Ended.{logs_end, waiting, waits_in, with_logged};
 
 use master_model::Progress;
 use master_work::{Answer, WorkState};
@@ -45,6 +45,20 @@ fn waits(over: Reply, awaited: Option<(u8, u32)>) -> Reply
     }
 }
 
+/// The answer to a command that has logged these groups, the last one with the end of its transaction: which log store
+/// is awaited.
+pub fn answers_logged(work: &WorkState, groups: GroupList) -> Answer
+    ensures { answered work.now result ≡ waiting (with_logged work.now groups) }
+{
+    let seq = work.timed.last_seq();
+    let awaited = work.waits_for(seq);
+    Answer {
+        reply: waits(Reply::Done, awaited),
+        groups,
+        messages: MessageList::new(work.alloc),
+    }
+}
+
 /// Logs the end of a session's transaction, and answers which log store is awaited. There are a number and a stamp for
 /// it. With want of memory nothing changes.
 pub fn end(work: &mut WorkState, session: u16, committed: bool) -> Mem<Answer>
@@ -56,13 +70,7 @@ pub fn end(work: &mut WorkState, session: u16, committed: bool) -> Mem<Answer>
     ensures err { OnErr result (work.new ≡ work.old) }
 {
     let groups = log_end(work, session, committed)?;
-    let seq = work.timed.last_seq();
-    let awaited = work.waits_for(seq);
-    Ok(Answer {
-        reply: waits(Reply::Done, awaited),
-        groups,
-        messages: MessageList::new(work.alloc),
-    })
+    Ok(answers_logged(work, groups))
 }
 
 /// The answer to a session whose transaction's end is the group of that number: once that is durable, the session is

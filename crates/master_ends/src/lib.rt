@@ -11,5 +11,5 @@ mod sends;
 
 pub use beats::on_want;
 pub use commits::commit;
-pub use ends::{answers_end, end, log_end};
+pub use ends::{answers_end, answers_logged, end, log_end};
 pub use sends::appends;
