@@ -102,8 +102,11 @@ impl ClockedLog {
 
     /// The own entry of the vector for sending: the stamp of the last durable group.
     pub fn own_entry(&self) -> Stamp
-        ensures { result.0 ≡ durable_stamp self.now.log }
+        ensures value { result.0 ≡ durable_stamp self.now.log }
+        ensures fits { result.0 ≤ 2 ^ 63 - 1 }
     {
+        let _ = self.clock.scalar();
+        let _ = self.log.last_seq();
         self.log.durable()
     }
 
@@ -112,8 +115,6 @@ impl ClockedLog {
         ensures value { IfOk result (λ vector. vector ≡ sending self.now.clock (durable_stamp self.now.log)) }
         ensures fits { IfOk result (λ vector. greatest vector ≤ 2 ^ 63 - 1) }
     {
-        let _ = self.clock.scalar();
-        let _ = self.log.last_seq();
         let vector = self.clock.vector_for_sending(self.own_entry())?;
         Ok(vector)
     }
