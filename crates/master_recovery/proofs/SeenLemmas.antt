@@ -20,7 +20,7 @@ use Rattle.master_recovery.specs.Seen.{EndedTxns, IsSound, Seen, Shows, StageFit
 
 -- ---- more groups
 
-pages_more : (m : FinMap nat_cmp ℕ) (gs hs : List Group) → with_groups m (gs ++ hs) ≡ with_groups (with_groups m gs) hs
+pub pages_more : (m : FinMap nat_cmp ℕ) (gs hs : List Group) → with_groups m (gs ++ hs) ≡ with_groups (with_groups m gs) hs
 pages_more m [] hs = refl
 pages_more m (g ∷ gs) hs = pages_more (model.with_records m g.stamp.0 g.records) gs hs
 
@@ -35,7 +35,7 @@ ends_more m (g ∷ gs) hs = ends_more (with_ends m (ends_in g.records)) gs hs
 -- ---- each call
 
 -- What is seen at a stage.
-abbrev seen_at : Recovery → Stage → Seen
+abbrev pub seen_at : Recovery → Stage → Seen
 seen_at r s = record {
   writer = r.writer;
   stage = s;
@@ -77,7 +77,7 @@ closed_shows l r store most is = by r.stage refl
     by Over e = stays l r is
 
 -- What is seen once more groups were read.
-read_more : (r : Recovery) (gs : List Group) (a b c : ℕ) → r.stage ≡ Scan a b c → (s : Stage)
+pub read_more : (r : Recovery) (gs : List Group) (a b c : ℕ) → r.stage ≡ Scan a b c → (s : Stage)
     → ◌≡◌ {A = Seen} (record {
       writer = r.writer;
       stage = s;
@@ -137,10 +137,10 @@ drop_drop zero xs = refl
 drop_drop (suc n) [] = refl
 drop_drop (suc n) (x ∷ xs) = drop_drop n xs
 
-drop_next : {A : Type 0} (n m : ℕ) (xs : List A) → m ≡ n + 1 → drop 1 (drop n xs) ≡ drop m xs
+pub drop_next : {A : Type 0} (n m : ℕ) (xs : List A) → m ≡ n + 1 → drop 1 (drop n xs) ≡ drop m xs
 drop_next n m xs e = let next : suc n ≡ m = omega (arith, e) in drop_drop n xs ∙ ap (λ k. drop k xs) next
 
-left_most : {A : Type 0} (xs : List A) (left : ℕ) → left ≡ length (drop (length xs - left) xs) → left ≤ length xs
+pub left_most : {A : Type 0} (xs : List A) (left : ℕ) → left ≡ length (drop (length xs - left) xs) → left ≤ length xs
 left_most xs left e = omega (arith, e, drop_most (length xs - left) xs)
   where
     drop_most : {A : Type 0} (n : ℕ) (xs : List A) → length (drop n xs) ≤ length xs
@@ -165,7 +165,7 @@ undone_shows r left e some sound =
 pub told_shows : (r : Recovery) → r.stage ≡ Undo 0 → told (seen r) ≡ seen (record r { stage = Told })
 told_shows r e = ap (λ s. told (seen_at r s)) e
 
-same_number : (n : ℕ) → nat_eq n n ≡ true
+pub same_number : (n : ℕ) → nat_eq n n ≡ true
 same_number n = search rules
 
 pub over_shows : (l : Life) (r : Recovery) → l.recovery ≡ Some r → Shows (over (seen r)) (on_recovered l (writer_named r.writer)).0.recovery
@@ -232,10 +232,10 @@ ended_is gs t = groups_end fin.empty gs t ∙ ap (λ o. is_some o || have_end gs
 
 -- ---- a part is taken over
 
-open_rows_are : (r : Recovery) (part : ℕ) (rest : Bool) → r.stage ≡ Take part rest → open_rows (seen r) ≡ to_undo r.writer r.scanned
+pub open_rows_are : (r : Recovery) (part : ℕ) (rest : Bool) → r.stage ≡ Take part rest → open_rows (seen r) ≡ to_undo r.writer r.scanned
 open_rows_are r part rest e = λ i. fin.keys (fin.retain_keys (ap (λ s. written_at s (written_by fin.empty r.writer r.scanned)) e i) (λ w. not (ended_is r.scanned w.txn i)))
 
-all_left : (rows : List WrittenRow) (n : ℕ) → n ≡ length rows → drop (length rows - n) rows ≡ rows
+pub all_left : (rows : List WrittenRow) (n : ℕ) → n ≡ length rows → drop (length rows - n) rows ≡ rows
 all_left rows n e = drop_none (length rows - n) rows (omega (arith, e))
 
 pub taken_shows : (l : Life) (r : Recovery) (part : ℕ) → l.recovery ≡ Some r → Shows (taken (seen r) part) (on_taken_in l r part r.stage).0.recovery

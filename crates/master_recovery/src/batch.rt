@@ -77,7 +77,7 @@ impl Batch {
 }
 
 /// Whether it is the next group of the closed log, which has `most` groups.
-fn is_next(writer: Writer, next: u64, most: u32, group: &Group) -> bool
+pub fn is_next(writer: Writer, next: u64, most: u32, group: &Group) -> bool
     ensures { result ≡ is_next writer.0 next most group.now }
 {
     group.writer == writer && u64::from(group.seq) == next && group.seq <= most

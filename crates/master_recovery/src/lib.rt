@@ -15,5 +15,6 @@ mod row_places;
 mod txn_places;
 mod written_row;
 
+pub use batch::is_next;
 pub use recovery::Recovery;
 pub use written_row::WrittenRow;

@@ -59,6 +59,14 @@ impl PagePlaces {
         }
     }
 
+    /// The same places in memory of their own.
+    pub(crate) fn copy(&self) -> Mem<PagePlaces>
+        ensures { IfOk result (λ copy. copy ≡ self.now) }
+    {
+        let places = self.places.clone()?;
+        Ok(PagePlaces { places })
+    }
+
     /// Whether the page has a place.
     fn has(&self, item: &PageStamp) -> bool
         ensures { result ≡ fin.contains_key self.now item.now.page.0 }

@@ -1,5 +1,5 @@
 //! The recovery of a lost writer, stage by stage.
-ghost use Rattle.std.specs.Prelude.{◌≡◌, ◌<◌, ℕ, IfOk, OnOk, OnErr, slice_get};
+ghost use Rattle.std.specs.Prelude.{◌≡◌, ◌<◌, ◌+◌, ℕ, false, IfOk, OnOk, OnErr, slice_get};
 ghost use Rattle.std.specs.Option.{option_copied};
 ghost use Rattle.master_model.specs.declared.recovery.Stage.TheVariants as stage;
 ghost use Rattle.master_model.specs.Recovery.{is_last, part_of, started};
@@ -149,6 +149,49 @@ impl Recovery {
         Ok(())
     }
 
+    /// What [`on_groups`](Recovery::on_groups) does, and the first part of the pages that are known then. So what is sent
+    /// once the last group is read can be made before anything changes. With want of memory nothing changes.
+    pub fn on_last_groups(&mut self, groups: &[Group]) -> Mem<PageStampList>
+        ensures ok { OnOk result (self.new ≡ scanned self.old groups.now) }
+        ensures part { IfOk result (λ pages. pages ≡ part_of (listed self.new.pages) 1) }
+        ensures err { OnErr result (self.new ≡ self.old) }
+    {
+        let Stage::Scan {
+            store,
+            length,
+            next,
+        } = self.stage
+        else {
+            let first = self.part(1)?;
+            return Ok(first);
+        };
+        let mut batch = Batch::new(self.alloc);
+        let reached = gather(&mut batch, self.writer, next, length, groups)?;
+        if reached == u64::from(next) {
+            let first = self.part(1)?;
+            return Ok(first);
+        }
+        let mut pages = self.pages.copy()?;
+        pages.reserve(&batch.pages)?;
+        pages.enter(batch.pages);
+        let first = pages.part(self.alloc, 1)?;
+        self.rows.reserve(&batch.rows)?;
+        txn_places::reserve(&mut self.ended, &batch.ended)?;
+        self.pages = pages;
+        self.rows.enter(batch.rows);
+        txn_places::enter(&mut self.ended, batch.ended);
+        if reached <= u64::from(length) {
+            self.stage = Stage::Scan {
+                store,
+                length,
+                next: reached as u32,
+            };
+            return Ok(first);
+        }
+        self.stage = take_part(&self.pages, 1);
+        Ok(first)
+    }
+
     /// A part of the pages is taken over: the next one is awaited, or, after the last one, the rows of transactions without
     /// an end are left to undo. It changes nothing where another part is awaited, or none.
     pub fn on_taken(&mut self, part: u32)
@@ -224,6 +267,15 @@ impl Recovery {
     {
         let pages = self.pages.part(self.alloc, part)?;
         Ok(pages)
+    }
+
+    /// The number of the part after one that isn't the last.
+    pub fn part_after(&self, part: u32) -> u32
+        requires { is_last (listed self.now.pages) part ≡ false }
+        ensures { result ≡ part + 1 }
+    {
+        let _ = self.pages.count();
+        part + 1
     }
 
     /// Whether a part is the last one: no page is in a later one.
