@@ -1,0 +1,2 @@
+pub mod SeenLife
+pub mod Moves
