@@ -1,0 +1,5 @@
+mod AppendLemmas
+mod FileLemmas
+mod MomentLemmas
+mod OpenLemmas
+mod ReadingLemmas
