@@ -21,8 +21,8 @@ pub(crate) fn take_groups(
 ) -> Mem<Option<Front>>
     requires { 1 ≤ share.stores }
     ensures front { IfOk result (λ front. front ≡ front_after None (in_turn writer.0 first groups.now)) }
-    ensures ok { OnOk result (pages.new ≡ with_links pages.old (brought share.number share.stores (in_turn writer.0 first groups.now))) }
-    ensures err { OnErr result (TakesPart (brought share.number share.stores (in_turn writer.0 first groups.now)) pages.old pages.new) }
+    ensures ok { OnOk result (pages.new.records ≡ with_links pages.old.records (brought share.number share.stores (in_turn writer.0 first groups.now))) }
+    ensures err { OnErr result (TakesPart (brought share.number share.stores (in_turn writer.0 first groups.now)) pages.old.records pages.new.records) }
 {
     let mut front = None;
     let mut next = first;
@@ -56,8 +56,8 @@ fn take_records(
     records: &[Record],
 ) -> Mem<()>
     requires { 1 ≤ share.stores }
-    ensures ok { OnOk result (pages.new ≡ with_links pages.old (links_in share.number share.stores writer.0 stamp.0 records.now)) }
-    ensures err { OnErr result (TakesPart (links_in share.number share.stores writer.0 stamp.0 records.now) pages.old pages.new) }
+    ensures ok { OnOk result (pages.new.records ≡ with_links pages.old.records (links_in share.number share.stores writer.0 stamp.0 records.now)) }
+    ensures err { OnErr result (TakesPart (links_in share.number share.stores writer.0 stamp.0 records.now) pages.old.records pages.new.records) }
 {
     for change in records {
         if share.keeps(change, stamp) {
@@ -71,8 +71,8 @@ fn take_records(
 fn take(pages: &mut Chains, writer: Writer, stamp: Stamp, change: &Record) -> Mem<()>
     requires names { IsSome (page_of change.now) }
     requires later { prev_of change.now < stamp.0 }
-    ensures ok { OnOk result (pages.new ≡ with_link pages.old (link_of writer.0 stamp.0 change.now)) }
-    ensures err { OnErr result (pages.new ≡ pages.old) }
+    ensures ok { OnOk result (pages.new.records ≡ with_link pages.old.records (link_of writer.0 stamp.0 change.now)) }
+    ensures err { OnErr result (pages.new.records ≡ pages.old.records) }
 {
     match pages.add(writer, stamp, change) {
         Ok(()) => Ok(()),

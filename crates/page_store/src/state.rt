@@ -42,7 +42,7 @@ impl Model for State {
 
     ghost coded = { coded_state };
 
-    ghost view = { λ s. record { number = s.share.number; stores = s.share.stores; scalar = s.scalar; turn = s.turn; roster_stamp = s.roster_stamp; roster = s.roster; fronts = s.fronts; pages = s.pages } };
+    ghost view = { λ s. record { number = s.share.number; stores = s.share.stores; scalar = s.scalar; turn = s.turn; roster_stamp = s.roster_stamp; roster = s.roster; fronts = s.fronts; pages = s.pages.records } };
 
     ghost invariant = { λ s. 1 ≤ s.share.stores };
 }

@@ -1,6 +1,6 @@
 -- Facts on a link that is added to the chains.
 use Rattle.std.proofs.Common.{◌≡◌, ◌<◌, ◌^◌, ℕ, Bool, true, false, cond, List, [], get_or, refl, sym, ap, subst, ◌∙◌, arith}
-use Rattle.std.specs.Prelude.{reverse, IsSome}
+use Rattle.std.specs.Prelude.{not, is_some, reverse, IsSome}
 use Rattle.std.specs.Option.{unwrap_or}
 use Rattle.std.specs.declared.option.Option.{Option}
 use Rattle.std.specs.declared.option.Option.TheVariants.{None, Some}
@@ -12,10 +12,10 @@ use Rattle.std.proofs.lemmas.Bool.Decides.{nat_tests}
 use Rattle.page_model.specs.declared.link.Link.{Link}
 use Rattle.page_model.specs.Effects.{page_of, prev_of}
 use Rattle.page_model.specs.Versions.{Held, held, added, links_of, or_no_links, changed_page, taken, taken_again, taken_beside, same_link}
-use Rattle.version_chain.specs.declared.place.Place.TheVariants.{At, Before}
+use Rattle.version_chain.specs.declared.spot.Spot.TheVariants.{At, Before}
 use Rattle.version_chain.specs.Inside.{IsLink, IsChain, IsHeld, Rises, IsPlaceOf, inserted}
 use Rattle.version_chain.proofs.ChainLemmas.{rises}
-use Rattle.version_chain.proofs.PlaceLemmas.{held_at, held_between, added_between, chain_between}
+use Rattle.version_chain.proofs.SpotLemmas.{held_at, held_between, added_between, chain_between}
 
 -- ---- the chain of a page
 
@@ -55,7 +55,7 @@ named : (o : Option ℕ) → IsSome o → o ≡ Some (unwrap_or o 0)
 named None h = absurd cc
 named (Some n) h = refl
 
-links_after : (pages : Held) (page : ℕ) (links : List Link) (q : ℕ) (b : Bool) → is_at (nat_cmp q) page ≡ b → links_of (insert pages page links) q ≡ cond b links (links_of pages q)
+pub links_after : (pages : Held) (page : ℕ) (links : List Link) (q : ℕ) (b : Bool) → is_at (nat_cmp q) page ≡ b → links_of (insert pages page links) q ≡ cond b links (links_of pages q)
 links_after pages page links q true is =
     ap or_no_links (get-insert nat_cmp_total pages page links q ∙ ap (λ t. cond t (Some links) (get pages q)) is)
 links_after pages page links q false is =
@@ -77,3 +77,16 @@ held_new pages more page links at new is page_is names later fits place more_is 
     let link : IsLink page new = (named (page_of new.change) names ∙ ap Some (sym page_is), later) in
     let chain : IsChain page (inserted (links_of pages page) at new) = subst (λ l. IsChain page (inserted l at new)) is (chain_between page links at new place.0 place.1 link fits (chain_of pages page links is h)) in
     subst (λ m. IsHeld m) (sym more_is) (held_after pages page (inserted (links_of pages page) at new) h chain)
+
+-- A link is taken again exactly if it is the one that is held.
+pub some_again : (pages : Held) (b : Bool) → is_some (taken_again pages b) ≡ b
+some_again pages true = refl
+some_again pages false = refl
+
+pub none_of : {X : Type 0} (b : Bool) (o : Option X) → b ≡ not (is_some o) → b ≡ true → o ≡ None
+none_of b None is so = refl
+none_of b (Some x) is so = absurd (cc (is, so))
+
+pub some_of : {X : Type 0} (b : Bool) (o : Option X) → b ≡ not (is_some o) → b ≡ false → IsSome o
+some_of b None is so = absurd (cc (is, so))
+some_of b (Some x) is so = refl

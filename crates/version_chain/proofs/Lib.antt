@@ -1,5 +1,7 @@
 mod AddLemmas
 mod ChainLemmas
+mod KeptLemmas
 mod MapLemmas
 mod PathLemmas
-mod PlaceLemmas
+mod SpotLemmas
+mod WrittenLemmas

@@ -1,16 +1,24 @@
 -- What only the crate's own functions speak of.
-use Rattle.std.specs.Prelude.{◌≡◌, ◌<◌, ◌≤◌, ℕ, List, [], ◌∷◌, length, insert, reverse, slice_index_or}
-use Rattle.std.specs.declared.option.Option.TheVariants.{Some}
+use Rattle.std.specs.Prelude.{◌≡◌, ◌<◌, ◌≤◌, ℕ, Bool, ◌||◌, ◌&&◌, cond, nat_eq, nat_le, is_some, IfSome, List, [], ◌∷◌, length, insert, reverse, slice_index_or}
+use Rattle.std.specs.Coded.{Coded}
+use Rattle.std.specs.FinMap.{FinMap, contains_key}
+use Rattle.std.specs.FinSet as sets
+use Rattle.std.specs.declared.option.Option.{Option}
+use Rattle.std.specs.declared.option.Option.TheVariants.{None, Some}
 use Rattle.std.specs.declared.result.Result.{Result}
 use Rattle.std.specs.declared.result.Result.TheVariants.{Ok, Err}
 use Rattle.tm_data.specs.declared.transaction.Page.{Page}
 use Rattle.tm_data.specs.declared.image.Image.{Image}
-use Rattle.page_model.specs.Effects.{page_of, prev_of}
+use Rattle.page_model.specs.Effects.{initial, page_of, prev_of}
 use Rattle.page_model.specs.declared.link.Link.{Link}
-use Rattle.page_model.specs.Versions.{Fault, Missing, Unfit, effect, version}
+use Rattle.page_model.specs.Versions.{Held, Fault, Missing, Unfit, effect, links_of, version}
 pub use Rattle.version_chain.specs.Order.{IsLink, FallsBelow, IsChain, IsHeld}
-use Rattle.version_chain.specs.declared.place.Place.{Place}
-use Rattle.version_chain.specs.declared.place.Place.TheVariants.{At, Before}
+use Rattle.version_chain.specs.declared.places.Place.{Place}
+use Rattle.version_chain.specs.declared.places.Written.{Written}
+use Rattle.version_chain.specs.Places.{written_at, written_cmp, coded_written}
+use Rattle.version_chain.specs.Content.{Images, IsKept, image_at, wrote}
+use Rattle.version_chain.specs.declared.spot.Spot.{Spot}
+use Rattle.version_chain.specs.declared.spot.Spot.TheVariants.{At, Before}
 use Rattle.version_chain.specs.declared.error.VersionError.{VersionError}
 use Rattle.version_chain.specs.declared.error.VersionError.TheVariants as error
 
@@ -29,7 +37,7 @@ abbrev pub IsBefore : ℕ → List Link → ℕ → Type 0
 IsBefore at links s = ((k : ℕ) (d : Link) → k < at → k < length links → stamp_at links k d < s) × ((k : ℕ) (d : Link) → at ≤ k → k < length links → s < stamp_at links k d)
 
 -- The place is that of a stamp among links that rise.
-abbrev pub IsPlaceOf : Place → List Link → ℕ → Type 0
+abbrev pub IsPlaceOf : Spot → List Link → ℕ → Type 0
 IsPlaceOf (At at) links s = (at < length links) × ((d : Link) → stamp_at links at d ≡ s)
 IsPlaceOf (Before at) links s = (at ≤ length links) × IsBefore at links s
 
@@ -44,6 +52,21 @@ inserted ls at new = reverse (insert (reverse ls) at new)
 
 -- ---- the way down and up
 
+-- A page's version at a stamp is there: it is kept, or it is the first image.
+abbrev pub begins : Images → ℕ → ℕ → Bool
+begins images page s = nat_eq s 0 || is_some (image_at images page s)
+
+abbrev pub or_initial : Page → Option Image → Image
+or_initial page None = initial page
+or_initial page (Some image) = image
+
+abbrev pub base_of : Images → Page → ℕ → Image
+base_of images page s = or_initial page (image_at images page.0 s)
+
+-- Each image that is kept of a page is its version.
+abbrev pub AreKept : Images → Page → List Link → Type 0
+AreKept images page links = (s : ℕ) → IfSome (image_at images page.0 s) (IsKept page links s)
+
 -- What the links of a path make of the version at its end.
 abbrev pub effects : List Link → Result Image Fault → Result Image Fault
 effects [] r = r
@@ -54,9 +77,11 @@ abbrev pub Leads : ℕ → ℕ → List Link → ℕ → Type 0
 Leads page top [] bottom = top ≡ bottom
 Leads page top (l ∷ ls) bottom = (l.stamp.0 ≡ top) × (page_of l.change ≡ Some page) × Leads page (prev_of l.change) ls bottom
 
--- So far on the way down: the links left, from whose version at `next` the path makes the whole.
-pub record Walking (page : Page) (whole : Result Image Fault) (top : ℕ) (path rest : List Link) (next : ℕ) : Type 0 where
+-- So far on the way down: the links left, which give the same older versions as all do, and from whose version at
+-- `next` the path makes the whole.
+pub record Walking (page : Page) (all : List Link) (whole : Result Image Fault) (top : ℕ) (path rest : List Link) (next : ℕ) : Type 0 where
   pub chain : IsChain page.0 rest
+  pub same : (s : ℕ) → s ≤ next → version page rest s ≡ version page all s
   pub made : whole ≡ effects path (version page rest next)
   pub leads : Leads page.0 top path next
 
@@ -78,3 +103,22 @@ Stepped (Ok done) old new l = (effect l (Ok old) ≡ Ok new) × (new.page ≡ ol
 Stepped (Err (error.Unfit stamp)) old new l = effect l (Ok old) ≡ Err (Unfit stamp.0)
 Stepped (Err (error.Missing stamp)) old new l = ⊥
 Stepped (Err error.NoMemory) old new l = Unit {0}
+
+-- ---- what is held beside the records
+
+-- From each place where a writer has a record to nothing.
+abbrev pub Writings : Type 0
+Writings = FinMap written_cmp (Unit {0})
+
+abbrev pub coded_writings : Coded Writings
+coded_writings = sets.code coded_written
+
+-- The places of a writer's records from a stamp on, of those listed.
+abbrev pub places_from : List Written → ℕ → ℕ → List Place
+places_from [] writer from = []
+places_from (w ∷ ws) writer from = cond (nat_eq w.writer.0 writer && nat_le from w.at.stamp.0) (w.at ∷ places_from ws writer from) (places_from ws writer from)
+
+-- Each image that is kept is a version, and the places of each writer are those of its records.
+pub record IsSound (records : Held) (images : Images) (written : Writings) : Type 0 where
+  pub kept : (page : Page) → AreKept images page (links_of records page.0)
+  pub written_is : (writer : ℕ) (p : Place) → contains_key written (written_at writer p) ≡ wrote records writer p

@@ -1,3 +1,5 @@
 pub mod Answers
+pub mod Content
 pub mod Inside
 pub mod Order
+pub mod Places

@@ -1,4 +1,4 @@
-//! Why a record wasn't added, and why there is no version.
+//! Why a record wasn't added, why there is no version, and why an image wasn't kept.
 ghost use Rattle.std.specs.Prelude.{◌≡◌};
 
 use tm_base::{NoMemory, Stamp};
@@ -40,5 +40,28 @@ impl From<NoMemory> for VersionError {
 
     fn from(_: NoMemory) -> Self {
         VersionError::NoMemory
+    }
+}
+
+/// Why an image wasn't kept. The chains are then as they were.
+#[derive(Clone, Copy, Debug, PartialEq, Eq)]
+pub enum KeepError {
+    /// The page's version at the image's stamp wasn't made, since no record of this stamp is held.
+    Missing { stamp: Stamp },
+    /// It wasn't made, since the record of this stamp doesn't suit the version before it.
+    Unfit { stamp: Stamp },
+    /// It is another image. The stamp is the image's.
+    Differs { stamp: Stamp },
+    /// Want of memory.
+    NoMemory,
+}
+
+impl From<NoMemory> for KeepError {
+    ghost use Rattle.version_chain.specs.declared.error.KeepError.TheVariants.{NoMemory};
+
+    ghost from_gives = { λ _ e. e ≡ NoMemory };
+
+    fn from(_: NoMemory) -> Self {
+        KeepError::NoMemory
     }
 }

@@ -5,5 +5,5 @@ use Rattle.page_store.proofs.intake.take_records.Given as goal
 
 abbrev pub invariant-loop-change : goal.invariant-loop-change
 invariant-loop-change l =
-    IsOn (links_in l.share.number l.share.stores l.writer.0 l.stamp.0 (drop l.change-index l.records)) l.pages
-    (links_in l.share.number l.share.stores l.writer.0 l.stamp.0 l.records) l.initial.pages
+    IsOn (links_in l.share.number l.share.stores l.writer.0 l.stamp.0 (drop l.change-index l.records)) l.pages.records
+    (links_in l.share.number l.share.stores l.writer.0 l.stamp.0 l.records) l.initial.pages.records

@@ -1,19 +1,15 @@
-use Rattle.std.proofs.Common.{◌≡◌, [], map, Ok, sym, ap, subst, ◌∙◌, arith}
+use Rattle.std.proofs.Common.{◌≡◌, [], refl, map, ap, ◌∙◌, arith}
 use Rattle.std.proofs.lemmas.List.{map-append}
 use Rattle.std.proofs.lemmas.Result.{err_from_is_err_and}
-use Rattle.version_chain.specs.Inside.{effects, Leads}
 use Rattle.version_chain.proofs.PathLemmas.{no_items, fold_next, fold_goes, fold_stops, fold_ends}
 use Rattle.version_chain.proofs.version.fold.Goals as goal
 
 pub loop-link-init : goal.loop-link-init
-loop-link-init c =
-    let path = map (λ link. link.now) c.args.path.items in
-    let e = c.initial-image.ensures in
-    record {
-      own = ap (λ i. i.page) e;
-      made = ap (λ i. effects path (Ok i)) (sym e);
-      leads = subst (λ i. Leads c.args.page.0 c.args.stamp.0 path i.stamp.0) (sym e) c.requires;
-    }
+loop-link-init c = record {
+  own = c.requires.own;
+  made = refl;
+  leads = c.requires.leads;
+}
 
 pub step-requires-clause-names : goal.step-requires-clause-names
 step-requires-clause-names c =

@@ -1,5 +1,5 @@
 -- Facts on the place of a stamp among links that rise.
-use Rattle.std.proofs.Common.{◌≡◌, ◌≢◌, ◌<◌, ◌≤◌, ◌+◌, ◌^◌, ℕ, suc, zero, Bool, true, false, List, [], ◌∷◌, ◌++◌, length, take, drop, get_or, refl, sym, ap, subst, ◌∙◌, arith}
+use Rattle.std.proofs.Common.{◌≡◌, ◌≢◌, ◌<◌, ◌≤◌, ◌+◌, ◌^◌, ℕ, suc, zero, Bool, true, false, cond, List, [], ◌∷◌, ◌++◌, length, take, drop, get_or, refl, sym, ap, subst, ◌∙◌, arith}
 use Rattle.std.specs.Prelude.{reverse, insert, nat_eq, nat_lt}
 use Rattle.std.specs.List.{AllByRecursion}
 use Rattle.std.specs.declared.option.Option.TheVariants.{None, Some}
@@ -71,6 +71,22 @@ version_at page of high links at d s lt is f =
     ap (λ l. version page l s) (reverse_at links at d lt)
     ∙ version_past page zs ls s (newer_apart s zs (newer_than of high links at d s lt is f))
     ∙ version_here page (get_or links at d) (reverse (take at links)) s is
+
+newer_more : (low s : ℕ) (zs : List Link) → low < s → AllByRecursion (λ z. s < z.stamp.0) zs → AllByRecursion (λ z. low < z.stamp.0) zs
+newer_more low s [] lt h = tt
+newer_more low s (z ∷ zs) lt h = (omega (arith, lt, h.0), newer_more low s zs lt h.1)
+
+-- An older version is given by the older links.
+pub version_below : (page : Page) (of high : ℕ) (links : List Link) (at : ℕ) (d : Link) (s : ℕ) → at < length links → s < stamp_at links at d → FallsBelow of high (reverse links)
+    → version page (reverse links) s ≡ version page (reverse (take at links)) s
+version_below page of high links at d s lt below f =
+    let zs = reverse (drop (at + 1) links) in
+    let l = get_or links at d in
+    let ys = reverse (take at links) in
+    let b : nat_eq l.stamp.0 s ≡ false = grind (arith, nat_tests, below) in
+    ap (λ l. version page l s) (reverse_at links at d lt)
+    ∙ version_past page zs (l ∷ ys) s (newer_apart s zs (newer_more s l.stamp.0 zs below (newer_than of high links at d l.stamp.0 lt refl f)))
+    ∙ ap (λ t. cond t (effect l (version page ys (prev_of l.change))) (version page ys s)) b
 
 pub held_at : (of high : ℕ) (links : List Link) (at : ℕ) (d : Link) (s : ℕ) → at < length links → stamp_at links at d ≡ s → FallsBelow of high (reverse links)
     → held (reverse links) s ≡ Some (get_or links at d)

@@ -1,6 +1,6 @@
 use Rattle.std.proofs.Common.{◌<◌, ◌+◌, ◌-◌, ◌/◌, length, ◌∙◌, arith}
-use Rattle.version_chain.proofs.PlaceLemmas.{same_stamp, older_up, newer_down}
-use Rattle.version_chain.proofs.place.place_of.Goals as goal
+use Rattle.version_chain.proofs.SpotLemmas.{same_stamp, older_up, newer_down}
+use Rattle.version_chain.proofs.spot.place_of.Goals as goal
 
 pub returns-then-newest-stamp : goal.returns-then-newest-stamp
 returns-then-newest-stamp c = (

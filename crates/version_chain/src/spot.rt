@@ -8,7 +8,7 @@ use tm_base::{Stamp, Vector};
 
 /// The place of a stamp among links that ascend by stamp, counted from 0.
 #[derive(Clone, Copy)]
-pub(crate) enum Place {
+pub(crate) enum Spot {
     /// The link there has the stamp.
     At(usize),
     /// No link has the stamp, and so many have lesser ones.
@@ -16,27 +16,27 @@ pub(crate) enum Place {
 }
 
 /// Finds a stamp: at the end, where it mostly is, and else by halving.
-pub(crate) fn place_of(links: &[Link], stamp: Stamp) -> Place
+pub(crate) fn place_of(links: &[Link], stamp: Stamp) -> Spot
     requires { Rises links.now }
     ensures { IsPlaceOf result links.now stamp.0 }
 {
     let mut high = links.len();
     if high == 0 {
-        return Place::Before(0);
+        return Spot::Before(0);
     }
     let newest = links[high - 1].stamp.0;
     if newest < stamp.0 {
-        return Place::Before(high);
+        return Spot::Before(high);
     }
     if newest == stamp.0 {
-        return Place::At(high - 1);
+        return Spot::At(high - 1);
     }
     let mut low = 0;
     while low < high {
         let middle = low + (high - low) / 2;
         let here = links[middle].stamp.0;
         if here == stamp.0 {
-            return Place::At(middle);
+            return Spot::At(middle);
         }
         if here < stamp.0 {
             low = middle + 1;
@@ -44,7 +44,7 @@ pub(crate) fn place_of(links: &[Link], stamp: Stamp) -> Place
             high = middle;
         }
     }
-    Place::Before(low)
+    Spot::Before(low)
 }
 
 /// The greatest stamp up to this one, 0 where there is none.
@@ -53,8 +53,8 @@ pub(crate) fn last_upto(links: &[Link], stamp: Stamp) -> Stamp
     ensures { result.0 ≡ last_upto (reverse links.now) stamp.0 }
 {
     match place_of(links, stamp) {
-        Place::At(_) => stamp,
-        Place::Before(at) => last_before(links, at),
+        Spot::At(_) => stamp,
+        Spot::Before(at) => last_before(links, at),
     }
 }
 

@@ -1,7 +1,7 @@
 use Rattle.std.proofs.Common.{ℕ, ◌<◌, ◌≤◌, ◌-◌, length}
 use Rattle.page_model.specs.declared.link.Link.{Link}
 use Rattle.version_chain.specs.Inside.{stamp_at}
-use Rattle.version_chain.proofs.place.place_of.Given as goal
+use Rattle.version_chain.proofs.spot.place_of.Given as goal
 
 abbrev pub invariant-loop-low : goal.invariant-loop-low
 invariant-loop-low l =

@@ -1,7 +1,7 @@
 use Rattle.std.proofs.Common.{◌≡◌, ◌≤◌, length, take}
 use Rattle.std.specs.Prelude.{reverse}
 use Rattle.page_model.specs.Versions.{last_covered}
-use Rattle.version_chain.proofs.place.last_covered.Given as goal
+use Rattle.version_chain.proofs.spot.last_covered.Given as goal
 
 abbrev pub invariant-loop-at : goal.invariant-loop-at
 invariant-loop-at l = (l.at ≤ length l.links) × (last_covered (reverse (take l.at l.links)) l.cut ≡ last_covered (reverse l.links) l.cut)

@@ -1,6 +1,6 @@
 use Rattle.std.proofs.Common.{sym, ◌∙◌}
-use Rattle.version_chain.proofs.PlaceLemmas.{upto_held, upto_between}
-use Rattle.version_chain.proofs.place.last_upto.Goals as goal
+use Rattle.version_chain.proofs.SpotLemmas.{upto_held, upto_between}
+use Rattle.version_chain.proofs.spot.last_upto.Goals as goal
 
 pub returns-in-At : goal.returns-in-At
 returns-in-At c = sym (upto_held c.args.links.now c.in-At.field-0 c.args.stamp.0 c.in-At.ensures.0 c.in-At.ensures.1 c.requires)
