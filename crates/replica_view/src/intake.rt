@@ -29,7 +29,7 @@ pub(crate) fn keep_changes(
     stamp: Stamp,
     records: &[Record],
 ) -> Mem<()>
-    ensures { OnOk result (pages.new ≡ with_changes pages.old writer.0 stamp.0 records.now) }
+    ensures { OnOk result (pages.new.records ≡ with_changes pages.old.records writer.0 stamp.0 records.now) }
 {
     for change in records {
         keep_change(pages, writer, stamp, change)?;
@@ -39,7 +39,7 @@ pub(crate) fn keep_changes(
 
 /// Keeps a record, if it changes a page from a version before the stamp.
 fn keep_change(pages: &mut Chains, writer: Writer, stamp: Stamp, change: &Record) -> Mem<()>
-    ensures { OnOk result (pages.new ≡ with_change pages.old writer.0 stamp.0 change.now (page_of change.now)) }
+    ensures { OnOk result (pages.new.records ≡ with_change pages.old.records writer.0 stamp.0 change.now (page_of change.now)) }
 {
     if change.page().is_none() || prev_of(change).0 >= stamp.0 {
         return Ok(());
@@ -51,7 +51,7 @@ fn keep_change(pages: &mut Chains, writer: Writer, stamp: Stamp, change: &Record
 fn keep(pages: &mut Chains, writer: Writer, stamp: Stamp, change: &Record) -> Mem<()>
     requires names { IsSome (page_of change.now) }
     requires later { prev_of change.now < stamp.0 }
-    ensures { OnOk result (pages.new ≡ with_link pages.old (link_of writer.0 stamp.0 change.now)) }
+    ensures { OnOk result (pages.new.records ≡ with_link pages.old.records (link_of writer.0 stamp.0 change.now)) }
 {
     match pages.add(writer, stamp, change) {
         Ok(()) => Ok(()),

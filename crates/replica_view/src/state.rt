@@ -46,7 +46,7 @@ impl Model for State {
 
     ghost coded = { coded_state };
 
-    ghost view = { λ s. record { number = s.number; scalar = s.scalar; turn = s.turn; roster_stamp = s.roster_stamp; roster = s.roster; order = s.order; pages = s.pages; ends = s.ends; points = s.points } };
+    ghost view = { λ s. record { number = s.number; scalar = s.scalar; turn = s.turn; roster_stamp = s.roster_stamp; roster = s.roster; order = s.order; pages = s.pages.records; ends = s.ends; points = s.points } };
 }
 
 impl State {
@@ -186,7 +186,7 @@ impl State {
 
     /// The records of the pages.
     pub(crate) fn pages(&self) -> &Chains
-        ensures { result.now ≡ self.now.pages }
+        ensures { result.now.records ≡ self.now.pages }
     {
         &self.pages
     }
