@@ -1,0 +1,7 @@
+//! Worked cases of journals.
+//!
+//! Tests alone, gathered above the crate that they try.
+#![tactic(auto)]
+
+#[cfg(test)]
+mod journals;
